@@ -1,0 +1,5 @@
+pub mod Checking
+pub mod EntrySteps
+pub mod FirstWrong
+pub mod NetworkFacts
+pub mod NetworkLaw

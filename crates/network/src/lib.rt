@@ -1,0 +1,12 @@
+// The two sheets that a station sends: the network's entries, and the order in which its pivots are taken.
+mod entries;
+mod networks;
+mod numbers;
+mod refusals;
+
+pub use entries::Entry;
+pub use entries::EntryReader;
+pub use networks::Network;
+pub use numbers::Reader;
+pub use refusals::Layer;
+pub use refusals::Refusal;

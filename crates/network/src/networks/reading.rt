@@ -1,0 +1,100 @@
+// Judges a network sheet and reads it.
+ghost use mathlib.Core.Path.{_≡_};
+ghost use Prim.Native.Nat.{_+_, _*_};
+ghost use lib.ListN.{length};
+ghost use Rattle.std.specs.Of.Vec.{vec-items};
+ghost use Rattle.std.specs.Results.{Cases};
+ghost use Rattle.network.specs.Checks.{Answers};
+ghost use Rattle.network.specs.Entries.{entry-at, entries-of};
+ghost use Rattle.network.specs.NetworkSheet.{head-checked, entry-checked, entries-checked, network-checked, network-of, pattern};
+ghost use Rattle.network.specs.Wrong.{Judges, NetworkWrong};
+ghost use Rattle.network.specs.declared.refusals.Refusal.the-variants.{OutOfMemory};
+use super::super::entries::Entry;
+use super::super::entries::EntryReader;
+use super::super::numbers::Reader;
+use super::super::refusals::Refusal;
+use super::super::refusals::RefusalFromRefused;
+use super::Network;
+use std::alloc::Global;
+
+pub const MAX_COLUMNS: u16 = 512;
+pub const MAX_ENTRIES: u16 = 8192;
+
+// n and e, where the sheet's length goes with them.
+fn check_head(sheet: &[u8]) -> Result<(u16, u16), Refusal>
+    ensures { λ r. ⌜ r ≡ head-checked (now (sheet .entry)) ⌝ }
+{
+    let mut reader = Reader::new(sheet, 0);
+    let Some(n) = reader.next() else {
+        return Err(Refusal::NetworkCut(sheet.len()));
+    };
+    let Some(e) = reader.next() else {
+        return Err(Refusal::NetworkCut(sheet.len()));
+    };
+    if n < 1 || n > MAX_COLUMNS {
+        return Err(Refusal::ColumnCount(n));
+    }
+    if e < 1 || e > MAX_ENTRIES {
+        return Err(Refusal::EntryCount(e));
+    }
+    if sheet.len() != 4 + 4 * usize::from(e) {
+        return Err(Refusal::NetworkLength(sheet.len()));
+    }
+    Ok((n, e))
+}
+
+fn check_entry(n: u16, t: usize, before: Option<Entry>, entry: Entry) -> Result<(), Refusal>
+    ensures { λ r. ⌜ r ≡ entry-checked n t before entry ⌝ }
+{
+    if entry.row >= n || entry.column >= n {
+        return Err(Refusal::EntryOutside(t));
+    }
+    if let Some(other) = before && !entry.is_after(other) {
+        return Err(Refusal::EntryNotAfter(t));
+    }
+    Ok(())
+}
+
+fn check_entries(sheet: &[u8], n: u16, e: u16) -> Result<(), Refusal>
+    requires { ⌜ length (now sheet) ≡ 4 + 4 * e ⌝ }
+    ensures { λ r. ⌜ r ≡ entries-checked (now (sheet .entry)) n e ⌝ }
+{
+    let mut entries = EntryReader::new(sheet, e);
+    let mut before = None;
+    for t in 0..usize::from(e) {
+        let Some(entry) = entries.next() else {
+            return Err(Refusal::NetworkLength(sheet.len()));
+        };
+        check_entry(n, t, before, entry)?;
+        before = Some(entry);
+    }
+    Ok(())
+}
+
+fn copy_entries(heap: Global, sheet: &[u8], e: u16) -> Result<Vec<Entry>, Refusal>
+    requires { ⌜ length (now sheet) ≡ 4 + 4 * e ⌝ }
+    ensures { λ r. ⌜ Cases r (λ v. vec-items v ≡ entries-of (now (sheet .entry)) e) (λ refusal. refusal ≡ OutOfMemory) ⌝ }
+{
+    let mut all = Vec::new(heap);
+    let mut entries = EntryReader::new(sheet, e);
+    for t in 0..usize::from(e) {
+        let Some(entry) = entries.next() else {
+            return Err(Refusal::NetworkLength(sheet.len()));
+        };
+        all.push(entry)?;
+    }
+    Ok(all)
+}
+
+impl Network {
+    // Reads a network sheet, or says what is wrong with it first.
+    pub fn read(heap: Global, sheet: &[u8]) -> Result<Network, Refusal>
+        ensures answers { λ r. ⌜ Answers (network-checked (now (sheet .entry))) (λ m. pattern m ≡ network-of (now (sheet .entry))) r ⌝ }
+        ensures judges { λ r. ⌜ Judges (NetworkWrong (now (sheet .entry))) r ⌝ }
+    {
+        let (n, e) = check_head(sheet)?;
+        check_entries(sheet, n, e)?;
+        let entries = copy_entries(heap, sheet, e)?;
+        Ok(Network { n, entries })
+    }
+}
