@@ -1,5 +1,9 @@
 pub mod Checking
 pub mod EntrySteps
 pub mod FirstWrong
+pub mod Looking
 pub mod NetworkFacts
 pub mod NetworkLaw
+pub mod OrderLaw
+pub mod OrderSteps
+pub mod Permuting

@@ -16,9 +16,9 @@ use Rattle.network.specs.Checks.{Verdict, passed, unless, bind, each-from}
 use Rattle.network.specs.Entries.{after, entry-at}
 use Rattle.network.specs.NetworkSheet.{within, head-checked, follows, earlier, entry-checked, entry-verdict, entries-checked, network-checked}
 use Rattle.network.specs.Words.{word}
-use Rattle.network.specs.Wrong.{turn, Outside, Judges, NetworkWrong}
+use Rattle.network.specs.Wrong.{turn, Outside, NetworkWrong}
 use Rattle.network.specs.Wrong.NetworkWrong.{cut, columns, entries, long, outside, not-after}
-use Rattle.network.proofs.FirstWrong.{From, from-unless, bind-unless, judges-from}
+use Rattle.network.proofs.FirstWrong.{From, from-unless, bind-unless, Told, told-from}
 
 pub outside-from : (low high x : ℕ) → within low high x ≡ false → Outside low high x
 outside-from low high x e =
@@ -151,9 +151,9 @@ module _ (bytes : List ℕ) where
   chain : network-checked bytes ≡ unless (leb 4 (length bytes)) (NetworkCut (length bytes)) most
   chain = simp bind-unless
 
-  pub network-law : Judges (NetworkWrong bytes) (network-checked bytes)
+  pub network-law : Told (NetworkWrong bytes) (network-checked bytes)
   network-law =
-      judges-from (NetworkWrong bytes) (network-checked bytes)
+      told-from (NetworkWrong bytes) (network-checked bytes)
       (subst (From (NetworkWrong bytes) 0) (sym chain)
       (from-unless (NetworkWrong bytes) 0 (leb 4 (length bytes)) (NetworkCut (length bytes)) most refl (λ fails. cut (leb-false 4 (length bytes) fails)) not-cut
       (from-unless (NetworkWrong bytes) 1 (within 1 512 (word bytes 0)) (ColumnCount (word bytes 0)) some refl (λ fails. columns (outside-from 1 512 _ fails)) not-columns

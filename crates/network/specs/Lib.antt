@@ -2,6 +2,8 @@ pub mod Checks
 pub mod Entries
 pub mod EntryReading
 pub mod NetworkSheet
+pub mod OrderSheet
+pub mod Permutations
 pub mod Refusals
 pub mod Words
 pub mod Wrong

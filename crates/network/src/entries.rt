@@ -36,7 +36,7 @@ impl<'a> EntryReader<'a> {
         ensures { λ r. ⌜ Stands (now (sheet .entry)) e 0 r ⌝ }
     {
         let rows = Reader::new(sheet, 4);
-        let columns = Reader::new(sheet, 4 + 2 * usize::from(e));
+        let columns = Reader::new(sheet, 4 + 2 * e as usize);
         EntryReader { rows, columns }
     }
 

@@ -2,11 +2,14 @@
 mod entries;
 mod networks;
 mod numbers;
+mod orders;
+mod permutations;
 mod refusals;
 
 pub use entries::Entry;
-pub use entries::EntryReader;
 pub use networks::Network;
 pub use numbers::Reader;
+pub use orders::Order;
+pub use permutations::Permutation;
 pub use refusals::Layer;
 pub use refusals::Refusal;

@@ -8,6 +8,7 @@ ghost use Rattle.network.specs.Entries.{after, origin};
 use super::entries::Entry;
 
 mod reading;
+mod tellers;
 
 #[derive(Drop)]
 pub struct Network {

@@ -37,7 +37,7 @@ fn check_head(sheet: &[u8]) -> Result<(u16, u16), Refusal>
     if e < 1 || e > MAX_ENTRIES {
         return Err(Refusal::EntryCount(e));
     }
-    if sheet.len() != 4 + 4 * usize::from(e) {
+    if sheet.len() != 4 + 4 * e as usize {
         return Err(Refusal::NetworkLength(sheet.len()));
     }
     Ok((n, e))
@@ -61,7 +61,7 @@ fn check_entries(sheet: &[u8], n: u16, e: u16) -> Result<(), Refusal>
 {
     let mut entries = EntryReader::new(sheet, e);
     let mut before = None;
-    for t in 0..usize::from(e) {
+    for t in 0..e as usize {
         let Some(entry) = entries.next() else {
             return Err(Refusal::NetworkLength(sheet.len()));
         };
@@ -77,7 +77,7 @@ fn copy_entries(heap: Global, sheet: &[u8], e: u16) -> Result<Vec<Entry>, Refusa
 {
     let mut all = Vec::new(heap);
     let mut entries = EntryReader::new(sheet, e);
-    for t in 0..usize::from(e) {
+    for t in 0..e as usize {
         let Some(entry) = entries.next() else {
             return Err(Refusal::NetworkLength(sheet.len()));
         };

@@ -10,7 +10,7 @@ use Rattle.network.specs.declared.refusals.Refusal.{Refusal}
 use Rattle.network.specs.Checks.{Verdict, passed, bind, Answers}
 use Rattle.network.specs.NetworkSheet.{head-checked, entries-checked, network-checked, network-of, pattern}
 use Rattle.network.specs.Wrong.{Judges, NothingWrong, NetworkWrong}
-use Rattle.network.proofs.FirstWrong.{judges-answer}
+use Rattle.network.proofs.FirstWrong.{Told, judges}
 use Rattle.network.proofs.NetworkFacts.{kept}
 use Rattle.network.proofs.NetworkLaw.{network-law}
 use Rattle.network.proofs.networks.Network.read.Needs as need
@@ -19,12 +19,12 @@ abbrev Reads : List ℕ → Result Network Refusal → Type 0
 Reads bytes r = Answers (network-checked bytes) (λ m. pattern m ≡ network-of bytes) r
 
 judged : (bytes : List ℕ) (r : Result Network Refusal) → Reads bytes r → Judges (NetworkWrong bytes) r
-judged bytes r a = judges-answer (NetworkWrong bytes) (network-checked bytes) (λ m. pattern m ≡ network-of bytes) r (network-law bytes) a
+judged bytes r a = judges (NetworkWrong bytes) (network-checked bytes) (λ m. pattern m ≡ network-of bytes) r (network-law bytes) a
 
 -- where all checks passed nothing is wrong
 in-order : (bytes : List ℕ) (n e : ℕ) → head-checked bytes ≡ Ok (n, e) → entries-checked bytes n e ≡ passed → NothingWrong (NetworkWrong bytes)
 in-order bytes n e top all =
-    subst (λ (v : Verdict). Judges (NetworkWrong bytes) v) (ap (λ (head : Result (ℕ × ℕ) Refusal). bind head (λ x. entries-checked bytes (x .0) (x .1))) top ∙ all) (network-law bytes)
+    subst (Told (NetworkWrong bytes)) (ap (λ (head : Result (ℕ × ℕ) Refusal). bind head (λ x. entries-checked bytes (x .0) (x .1))) top ∙ all) (network-law bytes)
 
 pub ghost-result : need.ghost-result
 ghost-result c =

@@ -1,0 +1,23 @@
+// A list in which each of 0 to n - 1 stands once.
+ghost use mathlib.Core.Path.{_≡_};
+ghost use Prim.Native.Nat.{ℕ, _≤_, _<_};
+ghost use lib.ListN.{getD};
+ghost use Rattle.std.specs.Of.Vec.{vec-len, vec-items};
+
+mod reading;
+mod tellers;
+
+pub use reading::check_numbers;
+pub use reading::read_numbers;
+
+#[derive(Drop)]
+pub struct Permutation {
+    numbers: Vec<u16>,
+    // the index at which each number stands
+    positions: Vec<u16>,
+    ghost small: { vec-len numbers ≤ 512 },
+    ghost long: { vec-len positions ≡ vec-len numbers },
+    ghost below: { (i : ℕ) → i < vec-len numbers → getD (vec-items numbers) i 0 < vec-len numbers },
+    ghost there: { (v : ℕ) → v < vec-len numbers → (getD (vec-items positions) v 0 < vec-len numbers) × (getD (vec-items numbers) (getD (vec-items positions) v 0) 0 ≡ v) },
+    ghost back: { (i : ℕ) → i < vec-len numbers → getD (vec-items positions) (getD (vec-items numbers) i 0) 0 ≡ i },
+}
