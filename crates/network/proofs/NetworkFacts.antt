@@ -17,15 +17,14 @@ use Rattle.std.proofs.shelf.Tests.{and-parts, leb-true, ltb-true, eqb-true}
 use Rattle.network.specs.declared.entries.Entry.{Entry}
 use Rattle.network.specs.declared.refusals.Refusal.{Refusal}
 use Rattle.network.specs.declared.refusals.Refusal.the-variants.{NetworkCut, ColumnCount, EntryCount, NetworkLength, EntryOutside, EntryNotAfter}
-use Rattle.network.specs.Checks.{Verdict, passed, unless}
+use Rattle.network.specs.Checks.{Verdict, passed, unless, bind}
 use Rattle.network.specs.Entries.{after, entry-at, entries-of, origin}
-use Rattle.network.specs.NetworkSheet.{within, head-checked, follows, earlier, entry-checked, entry-verdict, entries-checked}
+use Rattle.network.specs.NetworkSheet.{within, head-checked, follows, earlier, entry-checked, entry-verdict, entries-checked, network-checked, network-head}
 use Rattle.network.specs.Words.{word}
-use Rattle.network.proofs.Checking.{unless-passed, each-from-passed}
+use Rattle.network.proofs.Checking.{unless-passed, bind-passed, each-from-passed}
 
 pub record Head (bytes : List ℕ) (n e : ℕ) : Type 0 where
-  pub n-is : n ≡ word bytes 0
-  pub e-is : e ≡ word bytes 2
+  pub told : _≡_ {A = ℕ × ℕ} (n, e) (word bytes 0, word bytes 2)
   pub n-fits : (1 ≤ n) × (n ≤ 512)
   pub e-fits : (1 ≤ e) × (e ≤ 8192)
   pub long : length bytes ≡ 4 + 4 * e
@@ -46,12 +45,11 @@ head-passed bytes n e is =
     let c = unless-passed (within 1 8192 (word bytes 2)) (EntryCount (word bytes 2)) last (n, e) (b .1) in
     let d = unless-passed (eqb (length bytes) (4 + 4 * word bytes 2)) (NetworkLength (length bytes)) told (n, e) (c .1) in
     let same : told ≡ Ok (n, e) = d .1 in
-    let pairs : (n, e) ≡ (word bytes 0, word bytes 2) = cc in
+    let pairs : _≡_ {A = ℕ × ℕ} (n, e) (word bytes 0, word bytes 2) = cc in
     let n-is = ap (λ (x : ℕ × ℕ). x .0) pairs in
     let e-is = ap (λ (x : ℕ × ℕ). x .1) pairs in
     record {
-      n-is = n-is;
-      e-is = e-is;
+      told = pairs;
       n-fits = subst (λ (x : ℕ). (1 ≤ x) × (x ≤ 512)) (sym n-is) (within-true 1 512 _ (b .0));
       e-fits = subst (λ (x : ℕ). (1 ≤ x) × (x ≤ 8192)) (sym e-is) (within-true 1 8192 _ (c .0));
       long = eqb-true _ _ (d .0) ∙ ap (λ (x : ℕ). 4 + 4 * x) (sym e-is);
@@ -89,9 +87,31 @@ Kept n xs len =
     × (((t : ℕ) → t < len → (getD xs t origin .row < n) × (getD xs t origin .column < n))
     × (((t : ℕ) → t + 1 < len → after (getD xs (t + 1) origin) (getD xs t origin) ≡ true) × Unit {0})))
 
-pub kept : (bytes : List ℕ) (n e len : ℕ) (xs : List Entry) → head-checked bytes ≡ Ok (n, e) → entries-checked bytes n e ≡ passed → xs ≡ entries-of bytes e → len ≡ length xs → Kept n xs len
-kept bytes n e len xs top all is long =
-    let head = head-passed bytes n e top in
-    let long2 : len ≡ e = long ∙ ap length is ∙ length-map-counting (entry-at bytes e) 0 e in
-    let there : Kept n (entries-of bytes e) e = (head .n-fits, (head .e-fits, (inside bytes n e all, (rising bytes n e all, tt)))) in
-    subst (λ (l : ℕ). Kept n xs l) (sym long2) (subst (λ (ys : List Entry). Kept n ys e) (sym is) there)
+ok-is : (x y : ℕ × ℕ) → _≡_ {A = Result (ℕ × ℕ) Refusal} (Ok y) (Ok x) → x ≡ y
+ok-is x y e = cc
+
+-- a sheet whose checks came to n and e
+module _ (bytes : List ℕ) (n e : ℕ) (checked : network-head bytes ≡ Ok (n, e)) where
+  all-passed : network-checked bytes ≡ passed
+  all-passed = bind-passed (network-checked bytes) (λ _. Ok (word bytes 0, word bytes 2)) (n, e) checked .1
+
+  told : _≡_ {A = ℕ × ℕ} (n, e) (word bytes 0, word bytes 2)
+  told = ok-is (n, e) (word bytes 0, word bytes 2) (sym (ap (λ (v : Verdict). bind v (λ _. Ok (word bytes 0, word bytes 2))) all-passed) ∙ checked)
+
+  both : (head : ℕ × ℕ) × (head-checked bytes ≡ Ok head) × (entries-checked bytes (head .0) (head .1) ≡ passed)
+  both = bind-passed (head-checked bytes) (λ head. entries-checked bytes (head .0) (head .1)) tt all-passed
+
+  same : both .0 ≡ (n, e)
+  same = head-passed bytes (both .0 .0) (both .0 .1) (both .1) .told ∙ sym told
+
+  pub head : Head bytes n e
+  head = subst (λ (x : ℕ × ℕ). Head bytes (x .0) (x .1)) same (head-passed bytes (both .0 .0) (both .0 .1) (both .1))
+
+  entries-passed : entries-checked bytes n e ≡ passed
+  entries-passed = subst (λ (x : ℕ × ℕ). entries-checked bytes (x .0) (x .1) ≡ passed) same (both .2)
+
+  pub kept : (len : ℕ) (xs : List Entry) → xs ≡ entries-of bytes e → len ≡ length xs → Kept n xs len
+  kept len xs is long =
+      let long2 : len ≡ e = long ∙ ap length is ∙ length-map-counting (entry-at bytes e) 0 e in
+      let there : Kept n (entries-of bytes e) e = (head .n-fits, (head .e-fits, (inside bytes n e entries-passed, (rising bytes n e entries-passed, tt)))) in
+      subst (λ (l : ℕ). Kept n xs l) (sym long2) (subst (λ (ys : List Entry). Kept n ys e) (sym is) there)

@@ -55,6 +55,10 @@ entries-checked bytes n e = each-from (entry-verdict bytes n e) 0 e
 abbrev pub network-checked : List ℕ → Verdict
 network-checked bytes = bind (head-checked bytes) (λ head. entries-checked bytes (head .0) (head .1))
 
+-- n and e of a sheet in order
+abbrev pub network-head : List ℕ → Result (ℕ × ℕ) Refusal
+network-head bytes = bind (network-checked bytes) (λ _. Ok (word bytes 0, word bytes 2))
+
 -- a network as a sheet tells it
 pub record Pattern : Type 0 where
   pub size : ℕ

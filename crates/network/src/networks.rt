@@ -10,6 +10,9 @@ use super::entries::Entry;
 mod reading;
 mod tellers;
 
+pub use reading::check_network;
+pub use reading::copy_network;
+
 #[derive(Drop)]
 pub struct Network {
     n: u16,

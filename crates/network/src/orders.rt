@@ -5,6 +5,9 @@ use super::permutations::Permutation;
 
 mod reading;
 
+pub use reading::check_order;
+pub use reading::copy_order;
+
 #[derive(Drop)]
 pub struct Order {
     rows: Permutation,

@@ -4,9 +4,10 @@ ghost use Prim.Native.Nat.{_+_, _*_};
 ghost use lib.ListN.{length};
 ghost use Rattle.std.specs.Of.Vec.{vec-items};
 ghost use Rattle.std.specs.Results.{Cases};
+ghost use Rattle.std.specs.declared.result.Result.the-variants.{Ok};
 ghost use Rattle.network.specs.Checks.{Answers};
 ghost use Rattle.network.specs.Entries.{entry-at, entries-of};
-ghost use Rattle.network.specs.NetworkSheet.{head-checked, entry-checked, entries-checked, network-checked, network-of, pattern};
+ghost use Rattle.network.specs.NetworkSheet.{head-checked, entry-checked, entries-checked, network-head, network-checked, network-of, pattern};
 ghost use Rattle.network.specs.Wrong.{Judges, NetworkWrong};
 ghost use Rattle.network.specs.declared.refusals.Refusal.the-variants.{OutOfMemory};
 use super::super::entries::Entry;
@@ -86,15 +87,31 @@ fn copy_entries(heap: Global, sheet: &[u8], e: u16) -> Result<Vec<Entry>, Refusa
     Ok(all)
 }
 
+// n and e of a sheet in order, or the first thing that is wrong with it.
+pub fn check_network(sheet: &[u8]) -> Result<(u16, u16), Refusal>
+    ensures { λ r. ⌜ r ≡ network-head (now (sheet .entry)) ⌝ }
+{
+    let (n, e) = check_head(sheet)?;
+    check_entries(sheet, n, e)?;
+    Ok((n, e))
+}
+
+// Reads a sheet that was checked.
+pub fn copy_network(heap: Global, sheet: &[u8], n: u16, e: u16) -> Result<Network, Refusal>
+    requires { ⌜ network-head (now sheet) ≡ Ok (n, e) ⌝ }
+    ensures { λ r. ⌜ Cases r (λ m. pattern m ≡ network-of (now (sheet .entry))) (λ refusal. refusal ≡ OutOfMemory) ⌝ }
+{
+    let entries = copy_entries(heap, sheet, e)?;
+    Ok(Network { n, entries })
+}
+
 impl Network {
     // Reads a network sheet, or says what is wrong with it first.
     pub fn read(heap: Global, sheet: &[u8]) -> Result<Network, Refusal>
         ensures answers { λ r. ⌜ Answers (network-checked (now (sheet .entry))) (λ m. pattern m ≡ network-of (now (sheet .entry))) r ⌝ }
         ensures judges { λ r. ⌜ Judges (NetworkWrong (now (sheet .entry))) r ⌝ }
     {
-        let (n, e) = check_head(sheet)?;
-        check_entries(sheet, n, e)?;
-        let entries = copy_entries(heap, sheet, e)?;
-        Ok(Network { n, entries })
+        let (n, e) = check_network(sheet)?;
+        copy_network(heap, sheet, n, e)
     }
 }

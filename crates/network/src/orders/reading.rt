@@ -1,9 +1,11 @@
 // Judges an order sheet and reads it.
 ghost use mathlib.Core.Path.{_≡_};
 ghost use Prim.Native.Nat.{_≤_};
-ghost use Rattle.network.specs.Checks.{Answers};
+ghost use Rattle.std.specs.Results.{Cases};
+ghost use Rattle.network.specs.Checks.{Answers, passed};
 ghost use Rattle.network.specs.OrderSheet.{order-checked, order-of, orders};
 ghost use Rattle.network.specs.Wrong.{Judges, OrderWrong};
+ghost use Rattle.network.specs.declared.refusals.Refusal.the-variants.{OutOfMemory};
 use super::super::networks::Network;
 use super::super::numbers::Reader;
 use super::super::permutations::Permutation;
@@ -13,7 +15,8 @@ use super::super::refusals::Refusal;
 use super::Order;
 use std::alloc::Global;
 
-fn check_order(sheet: &[u8], n: u16) -> Result<(), Refusal>
+// Says what is wrong first with the order sheet of a network of n columns.
+pub fn check_order(sheet: &[u8], n: u16) -> Result<(), Refusal>
     requires { ⌜ n ≤ 512 ⌝ }
     ensures { λ r. ⌜ r ≡ order-checked n (now (sheet .entry)) ⌝ }
 {
@@ -30,6 +33,16 @@ fn check_order(sheet: &[u8], n: u16) -> Result<(), Refusal>
     check_numbers(sheet, 2 + 2 * n as usize, n, n as usize)
 }
 
+// Reads a sheet that was checked.
+pub fn copy_order(heap: Global, sheet: &[u8], n: u16) -> Result<Order, Refusal>
+    requires { ⌜ n ≤ 512 ⌝ ∗ ⌜ order-checked n (now sheet) ≡ passed ⌝ }
+    ensures { λ r. ⌜ Cases r (λ o. orders o ≡ order-of n (now (sheet .entry))) (λ refusal. refusal ≡ OutOfMemory) ⌝ }
+{
+    let rows = read_numbers(heap, sheet, 2, n)?;
+    let columns = read_numbers(heap, sheet, 2 + 2 * n as usize, n)?;
+    Ok(Order { rows, columns })
+}
+
 impl Order {
     // Reads the order sheet of a network, or says what is wrong with it first.
     pub fn read(heap: Global, sheet: &[u8], network: &Network) -> Result<Order, Refusal>
@@ -38,8 +51,6 @@ impl Order {
     {
         let n = network.size();
         check_order(sheet, n)?;
-        let rows = read_numbers(heap, sheet, 2, n)?;
-        let columns = read_numbers(heap, sheet, 2 + 2 * n as usize, n)?;
-        Ok(Order { rows, columns })
+        copy_order(heap, sheet, n)
     }
 }
