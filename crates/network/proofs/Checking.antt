@@ -31,10 +31,17 @@ pub unless-passed : {X : Type 0} (ok : Bool) (refusal : Refusal) (rest : Result 
 unless-passed true refusal rest x e = (refl, e)
 unless-passed false refusal rest x e = absurd (never-ok refusal x e)
 
+ok-is : {X : Type 0} (x y : X) → _≡_ {A = Result X Refusal} (Ok y) (Ok x) → x ≡ y
+ok-is {X} x y e = cc
+
 -- the first of two
 pub bind-passed : {X Y : Type 0} (first : Result X Refusal) (rest : X → Result Y Refusal) (y : Y) → bind first rest ≡ Ok y → (x : X) × (first ≡ Ok x) × (rest x ≡ Ok y)
 bind-passed (Ok x) rest y e = (x, refl, e)
 bind-passed (Err refusal) rest y e = absurd (never-ok refusal y e)
+
+pub bind-told : {X : Type 0} (v : Verdict) (x y : X) → bind v (λ _. Ok y) ≡ Ok x → x ≡ y
+bind-told {X} (Ok tt) x y e = ok-is x y e
+bind-told {X} (Err refusal) x y e = absurd (never-ok refusal x e)
 
 only : (v : Verdict) (x : Unit {0}) → v ≡ Ok x → v ≡ passed
 only v tt e = e

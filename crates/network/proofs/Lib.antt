@@ -2,8 +2,10 @@ pub mod Checking
 pub mod EntrySteps
 pub mod FirstWrong
 pub mod Looking
+pub mod Marking
 pub mod NetworkFacts
 pub mod NetworkLaw
 pub mod OrderLaw
 pub mod OrderSteps
 pub mod Permuting
+pub mod Placing

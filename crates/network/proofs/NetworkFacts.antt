@@ -17,11 +17,11 @@ use Rattle.std.proofs.shelf.Tests.{and-parts, leb-true, ltb-true, eqb-true}
 use Rattle.network.specs.declared.entries.Entry.{Entry}
 use Rattle.network.specs.declared.refusals.Refusal.{Refusal}
 use Rattle.network.specs.declared.refusals.Refusal.the-variants.{NetworkCut, ColumnCount, EntryCount, NetworkLength, EntryOutside, EntryNotAfter}
-use Rattle.network.specs.Checks.{Verdict, passed, unless, bind}
+use Rattle.network.specs.Checks.{Verdict, passed, unless}
 use Rattle.network.specs.Entries.{after, entry-at, entries-of, origin}
 use Rattle.network.specs.NetworkSheet.{within, head-checked, follows, earlier, entry-checked, entry-verdict, entries-checked, network-checked, network-head}
 use Rattle.network.specs.Words.{word}
-use Rattle.network.proofs.Checking.{unless-passed, bind-passed, each-from-passed}
+use Rattle.network.proofs.Checking.{unless-passed, bind-passed, bind-told, each-from-passed}
 
 pub record Head (bytes : List ℕ) (n e : ℕ) : Type 0 where
   pub told : _≡_ {A = ℕ × ℕ} (n, e) (word bytes 0, word bytes 2)
@@ -87,16 +87,13 @@ Kept n xs len =
     × (((t : ℕ) → t < len → (getD xs t origin .row < n) × (getD xs t origin .column < n))
     × (((t : ℕ) → t + 1 < len → after (getD xs (t + 1) origin) (getD xs t origin) ≡ true) × Unit {0})))
 
-ok-is : (x y : ℕ × ℕ) → _≡_ {A = Result (ℕ × ℕ) Refusal} (Ok y) (Ok x) → x ≡ y
-ok-is x y e = cc
-
 -- a sheet whose checks came to n and e
 module _ (bytes : List ℕ) (n e : ℕ) (checked : network-head bytes ≡ Ok (n, e)) where
   all-passed : network-checked bytes ≡ passed
   all-passed = bind-passed (network-checked bytes) (λ _. Ok (word bytes 0, word bytes 2)) (n, e) checked .1
 
   told : _≡_ {A = ℕ × ℕ} (n, e) (word bytes 0, word bytes 2)
-  told = ok-is (n, e) (word bytes 0, word bytes 2) (sym (ap (λ (v : Verdict). bind v (λ _. Ok (word bytes 0, word bytes 2))) all-passed) ∙ checked)
+  told = bind-told (network-checked bytes) (n, e) (word bytes 0, word bytes 2) checked
 
   both : (head : ℕ × ℕ) × (head-checked bytes ≡ Ok head) × (entries-checked bytes (head .0) (head .1) ≡ passed)
   both = bind-passed (head-checked bytes) (λ head. entries-checked bytes (head .0) (head .1)) tt all-passed

@@ -3,20 +3,20 @@ use mathlib.Core.Path.{_≡_, refl, sym, ap, subst, _∙_}
 use mathlib.Core.Bool.{Bool, true, false, _&&_}
 use mathlib.Core.Logic.{_⊎_, inl, inr, ⊎-elim}
 use mathlib.Core.List.{List}
-use Prim.Native.Nat.{ℕ, zero, suc, _+_, _-_, _*_, _≤_, _<_}
+use Prim.Native.Nat.{ℕ, zero, suc, _+_, _*_, _^_, _≤_, _<_}
 use native.Mathlib.Numerals.{add-one}
 use native.Mathlib.Omega.{arith}
 use lib.Dec.{leb, ltb, eqb}
 use lib.ListN.{length}
 use Rattle.std.specs.declared.result.Result.the-variants.{Ok}
-use Rattle.std.proofs.shelf.Tests.{leb-true, leb-false, ltb-true, ltb-false, eqb-true, eqb-false, and-parts, and-cases, true≢false, both-ways}
+use Rattle.std.proofs.shelf.Tests.{leb-true, leb-false, ltb-true, ltb-false, eqb-true, eqb-false, and-parts, and-cases, true≢false, both-ways, cases-lt}
 use Rattle.network.specs.declared.refusals.Refusal.{Refusal}
 use Rattle.network.specs.declared.refusals.Refusal.the-variants.{NetworkCut, ColumnCount, EntryCount, NetworkLength, EntryOutside, EntryNotAfter}
 use Rattle.network.specs.Checks.{Verdict, passed, unless, bind, each-from}
 use Rattle.network.specs.Entries.{after, entry-at}
 use Rattle.network.specs.NetworkSheet.{within, head-checked, follows, earlier, entry-checked, entry-verdict, entries-checked, network-checked}
 use Rattle.network.specs.Words.{word}
-use Rattle.network.specs.Wrong.{turn, Outside, NetworkWrong}
+use Rattle.network.specs.Wrong.{turn, Outside, First, NetworkWrong}
 use Rattle.network.specs.Wrong.NetworkWrong.{cut, columns, entries, long, outside, not-after}
 use Rattle.network.proofs.FirstWrong.{From, from-unless, bind-unless, Told, told-from}
 
@@ -160,3 +160,22 @@ module _ (bytes : List ℕ) where
       (from-unless (NetworkWrong bytes) 2 (within 1 8192 (word bytes 2)) (EntryCount (word bytes 2)) last refl (λ fails. entries (outside-from 1 8192 _ fails)) not-entries
       (from-unless (NetworkWrong bytes) 3 (eqb (length bytes) (4 + 4 * word bytes 2)) (NetworkLength (length bytes)) (entries-checked bytes (word bytes 0) (word bytes 2)) refl (λ fails. long (eqb-false _ _ fails)) not-long
       (from-entries (word bytes 2) 0 (omega arith)))))))
+
+  -- what is wrong first has its turn before any check of an order sheet
+  few : (refusal : Refusal) → First (NetworkWrong bytes) refusal → 2 < turn refusal → word bytes 2 ≤ 8192
+  few refusal first late =
+      ⊎-elim
+      (λ (many : 8192 < word bytes 2). absurd (first .no-earlier (EntryCount (word bytes 2)) late (entries (inr many))))
+      (λ (enough : word bytes 2 ≤ 8192). enough)
+      (cases-lt 8192 (word bytes 2))
+
+  soon : (refusal : Refusal) → First (NetworkWrong bytes) refusal → NetworkWrong bytes refusal → turn refusal < 2 ^ 20
+  soon refusal first (cut short) = omega arith
+  soon refusal first (columns out) = omega arith
+  soon refusal first (entries out) = omega arith
+  soon refusal first (long other) = omega arith
+  soon refusal first (outside t h out) = omega (arith, few (EntryOutside t) first (omega arith))
+  soon refusal first (not-after t h out) = omega (arith, few (EntryNotAfter (t + 1)) first (omega arith))
+
+  pub early : (refusal : Refusal) → First (NetworkWrong bytes) refusal → turn refusal < 2 ^ 20
+  early refusal first = soon refusal first (first .cause)

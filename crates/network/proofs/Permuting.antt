@@ -16,7 +16,7 @@ use Rattle.std.proofs.shelf.Lists.{take-more, take-all, length-take, getD-take,
 use Rattle.std.proofs.shelf.Tests.{cases-eq, cases-bool, eq-eqb, ne-eqb, or-left, or-right, and-left, and-parts, not-true, both-ways, ltb-true, eqb-true, cond-true, cond-false, cases-lt, lt-ltb, le-ltb}
 use Rattle.network.specs.Permutations.{met, in-turn, position, Distinct, Inverts}
 
-or-false : (a b : Bool) → b ≡ false → a ≡ (a || b)
+pub or-false : (a b : Bool) → b ≡ false → a ≡ (a || b)
 or-false true b e = refl
 or-false false b e = sym e
 
@@ -210,12 +210,30 @@ kept xs ps len len′ is is′ few once inverts =
     subst (λ (l : ℕ). Kept xs ps l len′) (sym is) (subst (λ (l : ℕ). Kept xs ps (length xs) l) (sym is′) at)
 
 -- from a permutation's own promise
-pub position-kept : (xs ps : List ℕ) (len len′ : ℕ) → len ≡ length xs → Kept xs ps len len′ → (v : ℕ) → v < len → getD ps v 0 ≡ position xs v
-position-kept xs ps len len′ is keeps v below =
-    let at = keeps .1 .1 .1 .0 v below in
-    let here = met-here xs (length xs) (getD ps v 0) v (omega (arith, at .0)) (omega (arith, at .0)) (at .1) in
-    let first = found xs v (ap (met v) (sym (take-all (length xs) xs (omega arith))) ∙ here) in
-    subst (λ (w : ℕ). getD ps w 0 ≡ position xs v) (first .1) (keeps .1 .1 .1 .1 .0 (position xs v) (omega (arith, first .0)))
+module _ (xs ps : List ℕ) (len len′ : ℕ) (is : len ≡ length xs) (keeps : Kept xs ps len len′) where
+  -- each number stands at its position
+  pub kept-stands : (v : ℕ) → v < len → (position xs v < len) × (getD xs (position xs v) 0 ≡ v)
+  kept-stands v below =
+      let at = keeps .1 .1 .1 .0 v below in
+      let here = met-here xs (length xs) (getD ps v 0) v (omega (arith, at .0)) (omega (arith, at .0)) (at .1) in
+      let first = found xs v (ap (met v) (sym (take-all (length xs) xs (omega arith))) ∙ here) in
+      (omega (arith, first .0), first .1)
+
+  pub position-kept : (v : ℕ) → v < len → getD ps v 0 ≡ position xs v
+  position-kept v below =
+      let at = kept-stands v below in
+      subst (λ (w : ℕ). getD ps w 0 ≡ position xs v) (at .1) (keeps .1 .1 .1 .1 .0 (position xs v) (at .0))
+
+  -- and the position of the number at i is i
+  pub kept-back : (i : ℕ) → i < len → position xs (getD xs i 0) ≡ i
+  kept-back i below = sym (position-kept (getD xs i 0) (keeps .1 .1 .0 i below)) ∙ keeps .1 .1 .1 .1 .0 i below
+
+  pub position-is : (v i : ℕ) → v < len → i < len → eqb (position xs v) i ≡ eqb v (getD xs i 0)
+  position-is v i below inside =
+      ⊎-elim
+      (λ (same : position xs v ≡ i). eq-eqb _ _ same ∙ sym (eq-eqb _ _ (sym (kept-stands v below .1) ∙ ap (λ (k : ℕ). getD xs k 0) same)))
+      (λ (apart : position xs v ≡ i → ⊥). ne-eqb _ _ apart ∙ sym (ne-eqb _ _ (λ same. apart (ap (position xs) same ∙ kept-back i inside))))
+      (cases-eq (position xs v) i)
 
 -- what `get` finds in the positions
 pub position-got : (xs ps : List ℕ) (len len′ : ℕ) → len ≡ length xs → len′ ≡ length ps → Kept xs ps len len′ → (v : ℕ) → nth ps v ≡ cond (ltb v len) (Some (position xs v)) None

@@ -1,5 +1,6 @@
 // The two sheets that a station sends: the network's entries, and the order in which its pivots are taken.
 mod entries;
+mod matrices;
 mod networks;
 mod numbers;
 mod orders;
@@ -7,6 +8,7 @@ mod permutations;
 mod refusals;
 
 pub use entries::Entry;
+pub use matrices::Permuted;
 pub use networks::Network;
 pub use numbers::Reader;
 pub use orders::Order;

@@ -4,6 +4,7 @@ ghost use Rattle.std.specs.Of.Vec.{vec-len};
 use super::permutations::Permutation;
 
 mod reading;
+mod tellers;
 
 pub use reading::check_order;
 pub use reading::copy_order;
