@@ -27,7 +27,7 @@ module _ (Wrong : Refusal → Type 0) (m : ℕ) where
   step-back : (rest : Verdict) → ((other : Refusal) → Wrong other → turn other ≡ m → ⊥) → From Wrong (m + 1) rest → From Wrong m rest
   step-back (Ok x) here later =
       λ other late wrong.
-          ⊎-elim (λ (at : turn other ≡ m). here other wrong at) (λ (past : turn other ≡ m → ⊥). later other (omega arith) wrong) (cases-eq (turn other) m)
+      ⊎-elim (λ (at : turn other ≡ m). here other wrong at) (λ (past : turn other ≡ m → ⊥). later other (omega arith) wrong) (cases-eq (turn other) m)
   step-back (Err refusal) here later = record {
     cause = later .cause;
     late = omega (arith, later .late);

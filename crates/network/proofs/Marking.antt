@@ -58,10 +58,10 @@ module _ (n : ℕ) (o : Orders) (xs : List Entry) (t : ℕ) (marks : List Bool) 
   not-at j apart =
       ⊎-elim
       (λ (met : at x (j / n) (j % n) ≡ true).
-          let two = and-parts (eqb (x .row) (j / n)) (eqb (x .column) (j % n)) met in
-          let row = sym (eqb-true (x .row) (j / n) (two .0)) in
-          let column = sym (eqb-true (x .column) (j % n) (two .1)) in
-          absurd (apart (sym (div-add-mod' j n) ∙ (λ i. row i * n + column i))))
+      let two = and-parts (eqb (x .row) (j / n)) (eqb (x .column) (j % n)) met in
+      let row = sym (eqb-true (x .row) (j / n) (two .0)) in
+      let column = sym (eqb-true (x .column) (j % n) (two .1)) in
+      absurd (apart (sym (div-add-mod' j n) ∙ (λ i. row i * n + column i))))
       (λ (other : at x (j / n) (j % n) ≡ false). other)
       (cases-bool (at x (j / n) (j % n)))
 
@@ -69,13 +69,13 @@ module _ (n : ℕ) (o : Orders) (xs : List Entry) (t : ℕ) (marks : List Bool) 
   one j h =
       ⊎-elim
       (λ (same : j ≡ here).
-          let row = eq-eqb (x .row) (j / n) (sym (ap (λ (k : ℕ). k / n) same ∙ div-mul-add (x .row) n (x .column) column-in)) in
-          let column = eq-eqb (x .column) (j % n) (sym (ap (λ (k : ℕ). k % n) same ∙ mod-mul-add (x .row) n (x .column) column-in)) in
-          ap (λ (k : ℕ). getD (set marks here true) k false) same ∙ getD-set-same marks here true false (subst (λ (k : ℕ). here < k) (sym (so-far .whole)) inside)
-          ∙ sym (or-right _ _ (and-from _ _ row column)))
+      let row = eq-eqb (x .row) (j / n) (sym (ap (λ (k : ℕ). k / n) same ∙ div-mul-add (x .row) n (x .column) column-in)) in
+      let column = eq-eqb (x .column) (j % n) (sym (ap (λ (k : ℕ). k % n) same ∙ mod-mul-add (x .row) n (x .column) column-in)) in
+      ap (λ (k : ℕ). getD (set marks here true) k false) same ∙ getD-set-same marks here true false (subst (λ (k : ℕ). here < k) (sym (so-far .whole)) inside)
+      ∙ sym (or-right _ _ (and-from _ _ row column)))
       (λ (apart : j ≡ here → ⊥).
-          getD-set-other marks here j true false apart ∙ so-far .mark j h
-          ∙ or-false _ _ (not-at j apart))
+      getD-set-other marks here j true false apart ∙ so-far .mark j h
+      ∙ or-false _ _ (not-at j apart))
       (cases-eq j here)
 
   pub marked-more : Marked n o xs (t + 1) (set marks here true)
@@ -86,10 +86,10 @@ module _ (n : ℕ) (o : Orders) (xs : List Entry) (t : ℕ) (marks : List Bool) 
 
 -- a search through the places is a search through the entries
 has-placed : (n : ℕ) (o : Orders) (i k : ℕ) →
-  ((v : ℕ) → v < n → eqb (position (o .rows) v) i ≡ eqb v (getD (o .rows) i 0)) →
-  ((v : ℕ) → v < n → eqb (position (o .columns) v) k ≡ eqb v (getD (o .columns) k 0)) →
-  (xs : List Entry) → ((t : ℕ) → t < length xs → (getD xs t origin .row < n) × (getD xs t origin .column < n)) →
-  has-entry (map (placed o) xs) i k ≡ has-entry xs (getD (o .rows) i 0) (getD (o .columns) k 0)
+    ((v : ℕ) → v < n → eqb (position (o .rows) v) i ≡ eqb v (getD (o .rows) i 0)) →
+    ((v : ℕ) → v < n → eqb (position (o .columns) v) k ≡ eqb v (getD (o .columns) k 0)) →
+    (xs : List Entry) → ((t : ℕ) → t < length xs → (getD xs t origin .row < n) × (getD xs t origin .column < n)) →
+    has-entry (map (placed o) xs) i k ≡ has-entry xs (getD (o .rows) i 0) (getD (o .columns) k 0)
 has-placed n o i k rows columns [] within = refl
 has-placed n o i k rows columns (x ∷ xs) within =
     let row = rows (x .row) (within 0 (omega arith) .0) in
@@ -116,13 +116,13 @@ module _ (m : Permuted) where
       let xs = vec-items (m .network .entries) in
       fill-by-all (λ j. permuted (pattern (m .network)) o (j / n) (j % n)) marks (n * n) false (marked .whole)
       (λ j h.
-          let some : 0 < n = omega (arith, m .network .«columns_fit» .0) in
-          let row : j / n < n = div-below j n n some h in
-          let column : j % n < n = mod-below j n some in
-          marked .mark j h
-          ∙ ap (λ (ys : List Entry). has-entry (map (placed o) ys) (j / n) (j % n)) (take-all t xs end)
-          ∙ has-placed n o (j / n) (j % n) (rows-match (j / n) row) (columns-match (j % n) column) xs (λ s inside. (row-inside m s inside, column-inside m s inside))
-          ∙ ap (λ (b : Bool). b && has-entry xs (getD (o .rows) (j / n) 0) (getD (o .columns) (j % n) 0)) (sym (and-from _ _ (lt-ltb _ _ row) (lt-ltb _ _ column))))
+      let some : 0 < n = omega (arith, m .network .«columns_fit» .0) in
+      let row : j / n < n = div-below j n n some h in
+      let column : j % n < n = mod-below j n some in
+      marked .mark j h
+      ∙ ap (λ (ys : List Entry). has-entry (map (placed o) ys) (j / n) (j % n)) (take-all t xs end)
+      ∙ has-placed n o (j / n) (j % n) (rows-match (j / n) row) (columns-match (j % n) column) xs (λ s inside. (row-inside m s inside, column-inside m s inside))
+      ∙ ap (λ (b : Bool). b && has-entry xs (getD (o .rows) (j / n) 0) (getD (o .columns) (j % n) 0)) (sym (and-from _ _ (lt-ltb _ _ row) (lt-ltb _ _ column))))
 
   -- the place of an entry lies inside
   pub placed-inside : (t : ℕ) → t < length (vec-items (m .network .entries)) → (placed (orders (m .order)) (getD (vec-items (m .network .entries)) t origin) .row < m .network .n) × (placed (orders (m .order)) (getD (vec-items (m .network .entries)) t origin) .column < m .network .n)

@@ -59,7 +59,7 @@ well-numbered n xs i inside ok wrong =
     ⊎-elim
     (λ (large : n ≤ getD xs i 0). omega (arith, ltb-true _ _ (two .0)))
     (λ (twice : (j : ℕ) × (j < i) × (getD xs j 0 ≡ getD xs i 0)).
-        both-ways _ (not-true _ (two .1)) (met-here xs i (twice .0) (getD xs i 0) (twice .1) (omega (arith, twice .1)) (twice .2)))
+    both-ways _ (not-true _ (two .1)) (met-here xs i (twice .0) (getD xs i 0) (twice .1) (omega (arith, twice .1)) (twice .2)))
     wrong
 
 -- the numbers of a list, of which the first has the turn m, and then the rest
@@ -75,8 +75,8 @@ module _ (Wrong : Refusal → Type 0) (n base m : ℕ) (xs : List ℕ) (rest : V
       let e : m + (i + 1) ≡ m + i + 1 = omega arith in
       let next : From Wrong (m + i + 1) (bind tail (λ _. rest)) = subst (λ (k : ℕ). From Wrong k (bind tail (λ _. rest))) e (from-numbers count (i + 1) (omega arith)) in
       let chain : bind (bind (number-verdict n xs base i) (λ _. tail)) (λ _. rest) ≡ unless (in-turn n xs i) (OrderNumber (base + i)) (bind tail (λ _. rest)) =
-          ap (λ (v : Verdict). bind v (λ _. rest)) (bind-unless (in-turn n xs i) (OrderNumber (base + i)) passed (λ _. tail))
-          ∙ bind-unless (in-turn n xs i) (OrderNumber (base + i)) tail (λ _. rest) in
+      ap (λ (v : Verdict). bind v (λ _. rest)) (bind-unless (in-turn n xs i) (OrderNumber (base + i)) passed (λ _. tail))
+      ∙ bind-unless (in-turn n xs i) (OrderNumber (base + i)) tail (λ _. rest) in
       subst (From Wrong (m + i)) (sym chain)
       (from-unless Wrong (m + i) (in-turn n xs i) (OrderNumber (base + i)) (bind tail (λ _. rest)) (turns i) (bad i (omega arith)) (good i (omega arith)) next)
 

@@ -38,11 +38,11 @@ marked : (seen : List Bool) (xs : List ℕ) (i x v : ℕ) → x ≡ getD xs i 0 
 marked seen xs i x v is inside marks =
     ⊎-elim
     (λ (same : v ≡ x).
-        subst (λ (w : ℕ). getD (set seen x true) w false ≡ true) (sym same) (getD-set-same seen x true false (omega (arith, marks .0)))
-        ∙ sym (or-right (met v (take i xs)) (eqb (getD xs i 0) v) (eq-eqb (getD xs i 0) v (sym is ∙ sym same))))
+    subst (λ (w : ℕ). getD (set seen x true) w false ≡ true) (sym same) (getD-set-same seen x true false (omega (arith, marks .0)))
+    ∙ sym (or-right (met v (take i xs)) (eqb (getD xs i 0) v) (eq-eqb (getD xs i 0) v (sym is ∙ sym same))))
     (λ (apart : v ≡ x → ⊥).
-        getD-set-other seen x v true false apart ∙ marks .1 v inside
-        ∙ or-false (met v (take i xs)) (eqb (getD xs i 0) v) (ne-eqb (getD xs i 0) v (λ e. apart (sym e ∙ sym is))))
+    getD-set-other seen x v true false apart ∙ marks .1 v inside
+    ∙ or-false (met v (take i xs)) (eqb (getD xs i 0) v) (ne-eqb (getD xs i 0) v (λ e. apart (sym e ∙ sym is))))
     (cases-eq v x)
 
 pub marks-more : (seen : List Bool) (xs : List ℕ) (i x : ℕ) → i < length xs → x ≡ getD xs i 0 → Marks seen xs i → Marks (set seen x true) xs (i + 1)
@@ -132,13 +132,13 @@ how-many-push zero x xs new below = absurd (omega arith)
 how-many-push (suc m) x xs new below =
     ⊎-elim
     (λ (here : x ≡ m).
-        let rest = how-many-past m x xs (omega arith) in
-        let now′ : met m (xs ++ x ∷ []) ≡ true = met-push m x xs ∙ or-right (met m xs) (eqb x m) (eq-eqb x m here) in
-        let before : met m xs ≡ false = subst (λ (w : ℕ). met w xs ≡ false) here new in
-        omega (arith, rest, ap one now′, ap one before))
+    let rest = how-many-past m x xs (omega arith) in
+    let now′ : met m (xs ++ x ∷ []) ≡ true = met-push m x xs ∙ or-right (met m xs) (eqb x m) (eq-eqb x m here) in
+    let before : met m xs ≡ false = subst (λ (w : ℕ). met w xs ≡ false) here new in
+    omega (arith, rest, ap one now′, ap one before))
     (λ (apart : x ≡ m → ⊥).
-        let rest = how-many-push m x xs new (omega arith) in
-        omega (arith, rest, ap one (met-other m x xs apart)))
+    let rest = how-many-push m x xs new (omega arith) in
+    omega (arith, rest, ap one (met-other m x xs apart)))
     (cases-eq x m)
 
 none : (m : ℕ) → how-many m [] ≡ 0
@@ -160,12 +160,12 @@ found [] v e = absurd (both-ways false refl e)
 found (x ∷ xs) v e =
     ⊎-elim
     (λ (here : eqb x v ≡ true).
-        let at : position (x ∷ xs) v ≡ 0 = cond-true (eqb x v) 0 (suc (position xs v)) here in
-        (omega arith, ap (λ (i : ℕ). getD (x ∷ xs) i 0) at ∙ eqb-true x v here))
+    let at : position (x ∷ xs) v ≡ 0 = cond-true (eqb x v) 0 (suc (position xs v)) here in
+    (omega arith, ap (λ (i : ℕ). getD (x ∷ xs) i 0) at ∙ eqb-true x v here))
     (λ (apart : eqb x v ≡ false).
-        let at : position (x ∷ xs) v ≡ suc (position xs v) = cond-false (eqb x v) 0 (suc (position xs v)) apart in
-        let rest = found xs v (sym (ap (λ (b : Bool). b || met v xs) apart) ∙ e) in
-        (omega (arith, rest .0), ap (λ (i : ℕ). getD (x ∷ xs) i 0) at ∙ rest .1))
+    let at : position (x ∷ xs) v ≡ suc (position xs v) = cond-false (eqb x v) 0 (suc (position xs v)) apart in
+    let rest = found xs v (sym (ap (λ (b : Bool). b || met v xs) apart) ∙ e) in
+    (omega (arith, rest .0), ap (λ (i : ℕ). getD (x ∷ xs) i 0) at ∙ rest .1))
     (cases-bool (eqb x v))
 
 -- what is met among the first i stands at one of them
@@ -199,13 +199,19 @@ pub kept : (xs ps : List ℕ) (len len′ : ℕ) → len ≡ length xs → len�
 kept xs ps len len′ is is′ few once inverts =
     let at : Kept xs ps (length xs) (length ps) = (
       few,
-      (inverts .0,
-      (below-length xs once,
-      (λ v below.
-          let same = there xs ps once inverts v below in
-          let stand = stands xs once v below in
-          (subst (λ (i : ℕ). i < length xs) (sym same) (stand .0), subst (λ (i : ℕ). getD xs i 0 ≡ v) (sym same) (stand .1)),
-      (inverts .1, tt)))),
+      (
+        inverts .0,
+        (
+          below-length xs once,
+          (
+            λ v below.
+                let same = there xs ps once inverts v below in
+                let stand = stands xs once v below in
+                (subst (λ (i : ℕ). i < length xs) (sym same) (stand .0), subst (λ (i : ℕ). getD xs i 0 ≡ v) (sym same) (stand .1)),
+            (inverts .1, tt),
+          ),
+        ),
+      ),
     ) in
     subst (λ (l : ℕ). Kept xs ps l len′) (sym is) (subst (λ (l : ℕ). Kept xs ps (length xs) l) (sym is′) at)
 
@@ -240,6 +246,6 @@ pub position-got : (xs ps : List ℕ) (len len′ : ℕ) → len ≡ length xs �
 position-got xs ps len len′ is is′ keeps v =
     ⊎-elim
     (λ (below : v < len).
-        nth-getD ps v 0 (omega (arith, keeps .1 .0)) ∙ ap Some (position-kept xs ps len len′ is keeps v below) ∙ sym (cond-true (ltb v len) _ _ (lt-ltb v len below)))
+    nth-getD ps v 0 (omega (arith, keeps .1 .0)) ∙ ap Some (position-kept xs ps len len′ is keeps v below) ∙ sym (cond-true (ltb v len) _ _ (lt-ltb v len below)))
     (λ (past : len ≤ v). nth-past ps v (omega (arith, keeps .1 .0)) ∙ sym (cond-false (ltb v len) _ _ (le-ltb v len past)))
     (cases-lt v len)

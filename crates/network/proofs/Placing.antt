@@ -36,11 +36,11 @@ has-found [] r c e = absurd (both-ways false refl e)
 has-found (x ∷ xs) r c e =
     ⊎-elim
     (λ (here : (eqb (x .row) r && eqb (x .column) c) ≡ true).
-        let two = and-parts (eqb (x .row) r) (eqb (x .column) c) here in
-        (0, omega arith, eqb-true (x .row) r (two .0), eqb-true (x .column) c (two .1)))
+    let two = and-parts (eqb (x .row) r) (eqb (x .column) c) here in
+    (0, omega arith, eqb-true (x .row) r (two .0), eqb-true (x .column) c (two .1)))
     (λ (later : has-entry xs r c ≡ true).
-        let rest = has-found xs r c later in
-        (suc (rest .0), omega (arith, rest .1), rest .2, rest .3))
+    let rest = has-found xs r c later in
+    (suc (rest .0), omega (arith, rest .1), rest .2, rest .3))
     (or-cases _ _ e)
 
 -- ---- entries that rise
@@ -52,20 +52,20 @@ before-from x y e =
     ⊎-elim
     (λ (left : ltb (y .column) (x .column) ≡ true). inl (ltb-true _ _ left))
     (λ (same : (eqb (y .column) (x .column) && ltb (y .row) (x .row)) ≡ true).
-        let two = and-parts (eqb (y .column) (x .column)) (ltb (y .row) (x .row)) same in
-        inr (eqb-true _ _ (two .0), ltb-true _ _ (two .1)))
+    let two = and-parts (eqb (y .column) (x .column)) (ltb (y .row) (x .row)) same in
+    inr (eqb-true _ _ (two .0), ltb-true _ _ (two .1)))
     (or-cases _ _ e)
 
 before-trans : (x y z : Entry) → Before x y → Before y z → Before x z
 before-trans x y z a b =
     ⊎-elim
     (λ (p : x .column < y .column).
-        ⊎-elim (λ (q : y .column < z .column). inl (omega arith)) (λ (q : (y .column ≡ z .column) × (y .row < z .row)). inl (omega (arith, q .0))) b)
+    ⊎-elim (λ (q : y .column < z .column). inl (omega arith)) (λ (q : (y .column ≡ z .column) × (y .row < z .row)). inl (omega (arith, q .0))) b)
     (λ (p : (x .column ≡ y .column) × (x .row < y .row)).
-        ⊎-elim
-        (λ (q : y .column < z .column). inl (omega (arith, p .0)))
-        (λ (q : (y .column ≡ z .column) × (y .row < z .row)). inr (p .0 ∙ q .0, omega (arith, p .1, q .1)))
-        b)
+    ⊎-elim
+    (λ (q : y .column < z .column). inl (omega (arith, p .0)))
+    (λ (q : (y .column ≡ z .column) × (y .row < z .row)). inr (p .0 ∙ q .0, omega (arith, p .1, q .1)))
+    b)
     a
 
 never-before : (x y : Entry) → x .row ≡ y .row → x .column ≡ y .column → Before x y → ⊥
@@ -76,7 +76,7 @@ module _ (xs : List Entry) (len : ℕ) (rising : (t : ℕ) → t + 1 < len → a
   far s zero below inside = absurd (omega arith)
   far s (suc t) below inside =
       let step : Before (getD xs t origin) (getD xs (suc t) origin) =
-          subst (λ (k : ℕ). Before (getD xs t origin) (getD xs k origin)) (add-one t) (before-from _ _ (rising t (omega arith))) in
+      subst (λ (k : ℕ). Before (getD xs t origin) (getD xs k origin)) (add-one t) (before-from _ _ (rising t (omega arith))) in
       ⊎-elim
       (λ (here : s ≡ t). subst (λ (k : ℕ). Before (getD xs k origin) (getD xs (suc t) origin)) (sym here) step)
       (λ (apart : s ≡ t → ⊥). before-trans _ _ _ (far s t (omega arith) (omega arith)) step)
@@ -166,12 +166,12 @@ module _ (m : Permuted) where
   place-is t x is =
       ⊎-elim
       (λ (h : t < length xs).
-          let same : x ≡ getD xs t origin = some-is (is ∙ nth-getD xs t origin h) in
-          let row = subst (λ (y : Entry). y .row < n) (sym same) (row-inside t h) in
-          let column = subst (λ (y : Entry). y .column < n) (sym same) (column-inside t h) in
-          let len = vec-len (m .order .rows .numbers) in
-          let row-in : x .row < len = omega (arith, p-size, row) in
-          let column-in : x .column < len = omega (arith, p-size, column) in
-          cond-true _ _ _ (and-from (ltb (x .row) len) (ltb (x .column) len) (lt-ltb _ _ row-in) (lt-ltb _ _ column-in)) ∙ ap (mapped (placed (orders (m .order)))) is)
+      let same : x ≡ getD xs t origin = some-is (is ∙ nth-getD xs t origin h) in
+      let row = subst (λ (y : Entry). y .row < n) (sym same) (row-inside t h) in
+      let column = subst (λ (y : Entry). y .column < n) (sym same) (column-inside t h) in
+      let len = vec-len (m .order .rows .numbers) in
+      let row-in : x .row < len = omega (arith, p-size, row) in
+      let column-in : x .column < len = omega (arith, p-size, column) in
+      cond-true _ _ _ (and-from (ltb (x .row) len) (ltb (x .column) len) (lt-ltb _ _ row-in) (lt-ltb _ _ column-in)) ∙ ap (mapped (placed (orders (m .order)))) is)
       (λ (past : length xs ≤ t). absurd (never-none (is ∙ nth-past xs t past)))
       (cases-lt t (length xs))

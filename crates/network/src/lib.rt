@@ -1,5 +1,6 @@
 // The two sheets that a station sends: the network's entries, and the order in which its pivots are taken.
 mod entries;
+mod limits;
 mod matrices;
 mod networks;
 mod numbers;
@@ -8,6 +9,8 @@ mod permutations;
 mod refusals;
 
 pub use entries::Entry;
+pub use limits::MAX_COLUMNS;
+pub use limits::MAX_ENTRIES;
 pub use matrices::Permuted;
 pub use networks::Network;
 pub use numbers::Reader;
@@ -15,3 +18,4 @@ pub use orders::Order;
 pub use permutations::Permutation;
 pub use refusals::Layer;
 pub use refusals::Refusal;
+pub use refusals::RefusalDisplay;

@@ -76,7 +76,8 @@ impl Refusal {
             | Refusal::NetworkLength(_)
             | Refusal::EntryOutside(_)
             | Refusal::EntryNotAfter(_) => Layer::NetworkSheet,
-            Refusal::OrderLength(_) | Refusal::OrderSize(_) | Refusal::OrderNumber(_) => Layer::OrderSheet,
+            Refusal::OrderLength(_) | Refusal::OrderSize(_) | Refusal::OrderNumber(_) =>
+                Layer::OrderSheet,
         }
     }
 
@@ -85,7 +86,8 @@ impl Refusal {
     {
         match self {
             Refusal::OutOfMemory => 0,
-            Refusal::ColumnCount(found) | Refusal::EntryCount(found) | Refusal::OrderSize(found) => u64::from(found),
+            Refusal::ColumnCount(found) | Refusal::EntryCount(found) | Refusal::OrderSize(found) =>
+                u64::from(found),
             Refusal::NetworkCut(place)
             | Refusal::NetworkLength(place)
             | Refusal::EntryOutside(place)
@@ -122,15 +124,33 @@ impl fmt::Display for Meaning as MeaningDisplay {
     fn fmt<W: fmt::Write>(&self, f: &mut fmt::Formatter<W>) -> fmt::Result {
         match self.0 {
             Refusal::OutOfMemory => write!(f, "there is not enough memory"),
-            Refusal::NetworkCut(length) => write!(f, "the network sheet has {length} bytes, too few for n and e"),
+            Refusal::NetworkCut(length) => write!(
+                f,
+                "the network sheet has {length} bytes, too few for n and e"
+            ),
             Refusal::ColumnCount(n) => write!(f, "n is {n}, but a network has 1 to 512 columns"),
             Refusal::EntryCount(e) => write!(f, "e is {e}, but a network has 1 to 8192 entries"),
-            Refusal::NetworkLength(length) => write!(f, "the network sheet has {length} bytes, not 4 and 4 for each entry"),
-            Refusal::EntryOutside(entry) => write!(f, "entry {entry} has a row or a column that is n or more"),
-            Refusal::EntryNotAfter(entry) => write!(f, "entry {entry} does not come after the one before, by column, then by row"),
-            Refusal::OrderLength(length) => write!(f, "the order sheet has {length} bytes, not 2 and 4 for each column"),
+            Refusal::NetworkLength(length) => write!(
+                f,
+                "the network sheet has {length} bytes, not 4 and 4 for each entry"
+            ),
+            Refusal::EntryOutside(entry) => write!(
+                f,
+                "entry {entry} has a row or a column that is n or more"
+            ),
+            Refusal::EntryNotAfter(entry) => write!(
+                f,
+                "entry {entry} does not come after the one before, by column, then by row"
+            ),
+            Refusal::OrderLength(length) => write!(
+                f,
+                "the order sheet has {length} bytes, not 2 and 4 for each column"
+            ),
             Refusal::OrderSize(n) => write!(f, "the order sheet's n is {n}, not the network's"),
-            Refusal::OrderNumber(index) => write!(f, "order entry {index} is out of range or repeated"),
+            Refusal::OrderNumber(index) => write!(
+                f,
+                "order entry {index} is out of range or repeated"
+            ),
         }
     }
 }

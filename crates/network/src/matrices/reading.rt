@@ -27,7 +27,13 @@ fn check_sheets(network: &[u8], order: &[u8]) -> Result<(u16, u16), Refusal>
 }
 
 // Reads sheets that were checked.
-fn copy_sheets(heap: Global, network: &[u8], order: &[u8], n: u16, e: u16) -> Result<Permuted, Refusal>
+fn copy_sheets(
+    heap: Global,
+    network: &[u8],
+    order: &[u8],
+    n: u16,
+    e: u16,
+) -> Result<Permuted, Refusal>
     requires { ⌜ sheets-head (now network) (now order) ≡ Ok (n, e) ⌝ }
     ensures { λ r. ⌜ Cases r (Told (now (network .entry)) (now (order .entry))) (λ refusal. refusal ≡ OutOfMemory) ⌝ }
 {

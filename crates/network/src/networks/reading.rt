@@ -12,14 +12,13 @@ ghost use Rattle.network.specs.Wrong.{Judges, NetworkWrong};
 ghost use Rattle.network.specs.declared.refusals.Refusal.the-variants.{OutOfMemory};
 use super::super::entries::Entry;
 use super::super::entries::EntryReader;
+use super::super::limits::MAX_COLUMNS;
+use super::super::limits::MAX_ENTRIES;
 use super::super::numbers::Reader;
 use super::super::refusals::Refusal;
 use super::super::refusals::RefusalFromRefused;
 use super::Network;
 use std::alloc::Global;
-
-pub const MAX_COLUMNS: u16 = 512;
-pub const MAX_ENTRIES: u16 = 8192;
 
 // n and e, where the sheet's length goes with them.
 fn check_head(sheet: &[u8]) -> Result<(u16, u16), Refusal>
@@ -50,7 +49,9 @@ fn check_entry(n: u16, t: usize, before: Option<Entry>, entry: Entry) -> Result<
     if entry.row >= n || entry.column >= n {
         return Err(Refusal::EntryOutside(t));
     }
-    if let Some(other) = before && !entry.is_after(other) {
+    if let Some(other) = before
+        && !entry.is_after(other)
+    {
         return Err(Refusal::EntryNotAfter(t));
     }
     Ok(())

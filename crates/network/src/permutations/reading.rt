@@ -10,6 +10,7 @@ ghost use Rattle.network.specs.OrderSheet.{numbers-checked};
 ghost use Rattle.network.specs.Permutations.{Distinct, Inverts};
 ghost use Rattle.network.specs.Words.{words};
 ghost use Rattle.network.specs.declared.refusals.Refusal.the-variants.{OutOfMemory};
+use super::super::limits::MAX_COLUMNS;
 use super::super::numbers::Reader;
 use super::super::refusals::Refusal;
 use super::super::refusals::RefusalFromAlloc;
@@ -17,7 +18,7 @@ use super::super::refusals::RefusalFromRefused;
 use super::Permutation;
 use std::alloc::Global;
 
-const MAX_COLUMNS: usize = 512;
+const MARKS: usize = MAX_COLUMNS as usize;
 
 // Whether a number is below n and not marked.
 fn is_new(seen: &[bool], n: u16, number: u16) -> bool
@@ -33,7 +34,7 @@ pub fn check_numbers(sheet: &[u8], at: usize, n: u16, base: usize) -> Result<(),
     ensures { λ r. ⌜ r ≡ numbers-checked n (words (now (sheet .entry)) at n) base ⌝ }
 {
     let mut reader = Reader::new(sheet, at);
-    let mut seen = [false; MAX_COLUMNS];
+    let mut seen = [false; MARKS];
     for i in 0..n as usize {
         let Some(number) = reader.next() else {
             return Err(Refusal::OrderLength(sheet.len()));

@@ -28,10 +28,10 @@ loop-t-again c =
     let m = c .args .self .now in
     let more : c .loop-t .t < length (m .network .entries .items) = omega (arith, ap length (c .entries-t-end .ensures)) in
     elim (c .match-place .came) [
-      in-Some w ↦
-        subst (λ (v : Vec Bool Global). Marked (c .size-n .result) (orders (m .order)) (m .network .entries .items) (c .loop-t .t + 1) (vec-items v)) (sym (w .marks-is))
-        (step m _ (c .loop-t .t) _ (w .in-Some .place) (c .size-n .ensures) more (w .in-Some .ensures tt) (c .loop-t .inv) .1)
-    | in-rest w ↦ absurd (always m (c .loop-t .t) more (w .in-rest .ensures tt))
+      | in-Some w ↦
+          subst (λ (v : Vec Bool Global). Marked (c .size-n .result) (orders (m .order)) (m .network .entries .items) (c .loop-t .t + 1) (vec-items v)) (sym (w .marks-is))
+          (step m _ (c .loop-t .t) _ (w .in-Some .place) (c .size-n .ensures) more (w .in-Some .ensures tt) (c .loop-t .inv) .1)
+      | in-rest w ↦ absurd (always m (c .loop-t .t) more (w .in-rest .ensures tt))
     ]
 
 pub returns : need.returns

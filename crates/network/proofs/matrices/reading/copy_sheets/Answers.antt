@@ -15,6 +15,7 @@ ghost-result c =
     let network = c .args .network .now in
     let head = bind-told (sheets-checked network (c .args .order .now)) (c .args .n, c .args .e) (word network 0, word network 2) (c .pre) in
     let ordered = ap (λ (o : Orders). length (o .rows)) (c .in-Continue-order .ensures tt) in
-    let sized = ap (λ (x : Pattern). x .size) (c .in-Continue-network .ensures tt) in
-    (c .in-Continue-order .order .rows .numbers .ok .0 ∙ ordered ∙ length-words (c .args .order .now) 2 (c .args .n) ∙ ap (λ (x : ℕ × ℕ). x .0) head ∙ sym sized,
-    tt)
+    let sized = ap (λ (x : Pattern). x .size) (c .in-Continue-network .ensures tt) in (
+      c .in-Continue-order .order .rows .numbers .ok .0 ∙ ordered ∙ length-words (c .args .order .now) 2 (c .args .n) ∙ ap (λ (x : ℕ × ℕ). x .0) head ∙ sym sized,
+      tt,
+    )

@@ -25,8 +25,8 @@ long bytes p n len xs is copied = is ∙ ap length copied ∙ length-words bytes
 pub ghost-result : need.ghost-result
 ghost-result c =
     let rows = c .in-Continue-rows .rows .numbers in
-    let columns = c .in-Continue-columns .columns .numbers in
-    (long (c .args .sheet .now) 2 (c .args .n) _ (rows .items) (rows .ok .0) (c .in-Continue-rows .ensures tt)
-    ∙ sym (long (c .args .sheet .now) (2 + 2 * c .args .n) (c .args .n) _ (columns .items) (columns .ok .0) (c .in-Continue-columns .ensures tt)),
-    tt)
-
+    let columns = c .in-Continue-columns .columns .numbers in (
+      long (c .args .sheet .now) 2 (c .args .n) _ (rows .items) (rows .ok .0) (c .in-Continue-rows .ensures tt)
+          ∙ sym (long (c .args .sheet .now) (2 + 2 * c .args .n) (c .args .n) _ (columns .items) (columns .ok .0) (c .in-Continue-columns .ensures tt)),
+      tt,
+    )

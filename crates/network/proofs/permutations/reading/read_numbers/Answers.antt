@@ -21,7 +21,7 @@ invert-requires c κs =
 pub ghost-result : need.ghost-result
 ghost-result c =
     let two = copied (c .in-Continue-numbers .numbers .items) (words (c .args .sheet .now) (c .args .at) (c .args .n)) (c .in-Continue-numbers .ensures tt)
-        (omega (arith, length-words (c .args .sheet .now) (c .args .at) (c .args .n))) (c .pre .1 .1) in
+    (omega (arith, length-words (c .args .sheet .now) (c .args .at) (c .args .n))) (c .pre .1 .1) in
     kept (c .in-Continue-numbers .numbers .items) (c .in-Continue-positions .positions .items) _ _
     (c .in-Continue-numbers .numbers .ok .0) (c .in-Continue-positions .positions .ok .0) (two .0) (two .1)
     (subst (Inverts (c .in-Continue-positions .positions .items)) (c .deref .ensures .value) (c .in-Continue-positions .ensures tt))
