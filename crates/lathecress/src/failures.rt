@@ -1,6 +1,6 @@
 // What keeps the program from doing its job.
-use network::Refusal;
-use network::RefusalDisplay;
+use refusals::Refusal;
+use refusals::RefusalDisplay;
 use std::alloc::AllocError;
 use std::alloc::Refused;
 use std::fmt;

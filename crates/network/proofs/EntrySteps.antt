@@ -11,11 +11,11 @@ use Rattle.std.specs.declared.option.Option.the-variants.{Some, None}
 use Rattle.std.specs.declared.result.Result.the-variants.{Ok, Err}
 use Rattle.std.proofs.shelf.Counted.{map-counting-more}
 use Rattle.network.specs.declared.entries.Entry.{Entry}
-use Rattle.network.specs.declared.refusals.Refusal.{Refusal}
-use Rattle.network.specs.Checks.{Verdict, passed, each-from}
+use Rattle.refusals.specs.declared.Refusal.{Refusal}
+use Rattle.refusals.specs.Checks.{Verdict, passed, each-from}
 use Rattle.network.specs.Entries.{entry-at, entries-of}
 use Rattle.network.specs.NetworkSheet.{entry-checked, entry-verdict, entries-checked, earlier}
-use Rattle.network.proofs.Checking.{each-from-goes, each-from-stops}
+use Rattle.refusals.proofs.Checking.{each-from-goes, each-from-stops}
 
 -- what was read is entry t
 pub read-is : (bytes : List ℕ) (e t : ℕ) (o : Option Entry) (x : Entry) → o ≡ Some x → o ≡ Some (entry-at bytes e t) → x ≡ entry-at bytes e t

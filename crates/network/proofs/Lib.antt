@@ -1,6 +1,4 @@
-pub mod Checking
 pub mod EntrySteps
-pub mod FirstWrong
 pub mod Looking
 pub mod Marking
 pub mod NetworkFacts

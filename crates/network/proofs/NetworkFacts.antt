@@ -15,13 +15,13 @@ use Rattle.std.specs.declared.result.Result.the-variants.{Ok}
 use Rattle.std.proofs.shelf.Counted.{getD-map-counting, length-map-counting}
 use Rattle.std.proofs.shelf.Tests.{and-parts, leb-true, ltb-true, eqb-true}
 use Rattle.network.specs.declared.entries.Entry.{Entry}
-use Rattle.network.specs.declared.refusals.Refusal.{Refusal}
-use Rattle.network.specs.declared.refusals.Refusal.the-variants.{NetworkCut, ColumnCount, EntryCount, NetworkLength, EntryOutside, EntryNotAfter}
-use Rattle.network.specs.Checks.{Verdict, passed, unless}
+use Rattle.refusals.specs.declared.Refusal.{Refusal}
+use Rattle.refusals.specs.declared.Refusal.the-variants.{NetworkCut, ColumnCount, EntryCount, NetworkLength, EntryOutside, EntryNotAfter}
+use Rattle.refusals.specs.Checks.{Verdict, passed, unless}
 use Rattle.network.specs.Entries.{after, entry-at, entries-of, origin}
 use Rattle.network.specs.NetworkSheet.{within, head-checked, follows, earlier, entry-checked, entry-verdict, entries-checked, network-checked, network-head}
 use Rattle.network.specs.Words.{word}
-use Rattle.network.proofs.Checking.{unless-passed, bind-passed, bind-told, each-from-passed}
+use Rattle.refusals.proofs.Checking.{unless-passed, bind-passed, bind-told, each-from-passed}
 
 pub record Head (bytes : List ℕ) (n e : ℕ) : Type 0 where
   pub told : _≡_ {A = ℕ × ℕ} (n, e) (word bytes 0, word bytes 2)

@@ -10,15 +10,16 @@ use lib.Dec.{leb, ltb, eqb}
 use lib.ListN.{length}
 use Rattle.std.specs.declared.result.Result.the-variants.{Ok}
 use Rattle.std.proofs.shelf.Tests.{leb-true, leb-false, ltb-true, ltb-false, eqb-true, eqb-false, and-parts, and-cases, true≢false, both-ways, cases-lt}
-use Rattle.network.specs.declared.refusals.Refusal.{Refusal}
-use Rattle.network.specs.declared.refusals.Refusal.the-variants.{NetworkCut, ColumnCount, EntryCount, NetworkLength, EntryOutside, EntryNotAfter}
-use Rattle.network.specs.Checks.{Verdict, passed, unless, bind, each-from}
+use Rattle.refusals.specs.declared.Refusal.{Refusal}
+use Rattle.refusals.specs.declared.Refusal.the-variants.{NetworkCut, ColumnCount, EntryCount, NetworkLength, EntryOutside, EntryNotAfter}
+use Rattle.refusals.specs.Checks.{Verdict, passed, unless, bind, each-from}
 use Rattle.network.specs.Entries.{after, entry-at}
 use Rattle.network.specs.NetworkSheet.{within, head-checked, follows, earlier, entry-checked, entry-verdict, entries-checked, network-checked}
 use Rattle.network.specs.Words.{word}
-use Rattle.network.specs.Wrong.{turn, Outside, First, NetworkWrong}
+use Rattle.refusals.specs.Judging.{turn, First}
+use Rattle.network.specs.Wrong.{Outside, NetworkWrong}
 use Rattle.network.specs.Wrong.NetworkWrong.{cut, columns, entries, long, outside, not-after}
-use Rattle.network.proofs.FirstWrong.{From, from-unless, bind-unless, Told, told-from}
+use Rattle.refusals.proofs.FirstWrong.{From, from-unless, bind-unless, Told, told-from}
 
 pub outside-from : (low high x : ℕ) → within low high x ≡ false → Outside low high x
 outside-from low high x e =

@@ -9,16 +9,17 @@ use native.Mathlib.Omega.{arith}
 use lib.Dec.{ltb, eqb}
 use lib.ListN.{length, getD, take}
 use Rattle.std.proofs.shelf.Tests.{ltb-true, ltb-false, eqb-true, eqb-false, and-parts, and-cases, not-true, not-false, both-ways}
-use Rattle.network.specs.declared.refusals.Refusal.{Refusal}
-use Rattle.network.specs.declared.refusals.Refusal.the-variants.{OrderLength, OrderSize, OrderNumber}
-use Rattle.network.specs.Checks.{Verdict, passed, unless, bind, each-from}
+use Rattle.refusals.specs.declared.Refusal.{Refusal}
+use Rattle.refusals.specs.declared.Refusal.the-variants.{OrderLength, OrderSize, OrderNumber}
+use Rattle.refusals.specs.Checks.{Verdict, passed, unless, bind, each-from}
 use Rattle.network.specs.OrderSheet.{number-verdict, numbers-checked, order-checked}
 use Rattle.network.specs.Permutations.{met, in-turn, Distinct}
 use Rattle.network.specs.Words.{word, words}
-use Rattle.network.specs.Wrong.{turn, Misnumbered, OrderWrong}
+use Rattle.refusals.specs.Judging.{turn}
+use Rattle.network.specs.Wrong.{Misnumbered, OrderWrong}
 use Rattle.network.specs.Wrong.OrderWrong.{long, size, row-number, column-number}
-use Rattle.network.proofs.Checking.{unless-passed, bind-passed, each-from-passed}
-use Rattle.network.proofs.FirstWrong.{From, from-unless, from-late, bind-unless, bind-last, Told, told-from}
+use Rattle.refusals.proofs.Checking.{unless-passed, bind-passed, each-from-passed}
+use Rattle.refusals.proofs.FirstWrong.{From, from-unless, from-late, bind-unless, bind-last, Told, told-from}
 use Rattle.network.proofs.OrderSteps.{length-words}
 use Rattle.network.proofs.Permuting.{met-here, met-taken}
 

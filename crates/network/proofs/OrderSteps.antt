@@ -12,12 +12,12 @@ use Rattle.std.specs.declared.option.Option.the-variants.{Some, None}
 use Rattle.std.specs.declared.result.Result.the-variants.{Err}
 use Rattle.std.proofs.shelf.Counted.{getD-map-counting, length-map-counting, map-counting-more}
 use Rattle.std.proofs.shelf.Tests.{cond-true, le-leb, eq-eqb}
-use Rattle.network.specs.declared.refusals.Refusal.the-variants.{OrderNumber}
-use Rattle.network.specs.Checks.{Verdict, passed, unless, bind, each-from}
+use Rattle.refusals.specs.declared.Refusal.the-variants.{OrderNumber}
+use Rattle.refusals.specs.Checks.{Verdict, passed, unless, bind, each-from}
 use Rattle.network.specs.OrderSheet.{number-verdict, numbers-checked, order-checked}
 use Rattle.network.specs.Permutations.{in-turn}
 use Rattle.network.specs.Words.{word, words, word-read, past}
-use Rattle.network.proofs.Checking.{each-from-goes, each-from-stops}
+use Rattle.refusals.proofs.Checking.{each-from-goes, each-from-stops}
 use Rattle.network.proofs.Permuting.{Marks, marks-none, marks-more, new-is}
 
 pub word-there : (bytes : List ℕ) (p : ℕ) → p + 2 ≤ length bytes → word-read bytes p ≡ Some (word bytes p)

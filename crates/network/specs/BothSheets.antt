@@ -6,8 +6,8 @@ use Prim.Native.Nat.{ℕ}
 use Rattle.std.specs.declared.result.Result.{Result}
 use Rattle.std.specs.declared.result.Result.the-variants.{Ok}
 use Rattle.network.specs.declared.matrices.Permuted.{Permuted}
-use Rattle.network.specs.declared.refusals.Refusal.{Refusal}
-use Rattle.network.specs.Checks.{Verdict, bind}
+use Rattle.refusals.specs.declared.Refusal.{Refusal}
+use Rattle.refusals.specs.Checks.{Verdict, bind}
 use Rattle.network.specs.NetworkSheet.{network-checked, network-of, pattern}
 use Rattle.network.specs.OrderSheet.{order-checked, order-of, orders}
 use Rattle.network.specs.Words.{word}

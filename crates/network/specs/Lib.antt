@@ -1,11 +1,9 @@
 pub mod BothSheets
-pub mod Checks
 pub mod Entries
 pub mod EntryReading
 pub mod NetworkSheet
 pub mod OrderSheet
 pub mod Permutations
 pub mod Permuted
-pub mod Refusals
 pub mod Words
 pub mod Wrong

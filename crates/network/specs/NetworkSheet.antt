@@ -11,9 +11,9 @@ use Rattle.std.specs.declared.result.Result.{Result}
 use Rattle.std.specs.declared.result.Result.the-variants.{Ok}
 use Rattle.network.specs.declared.entries.Entry.{Entry}
 use Rattle.network.specs.declared.networks.Network.{Network}
-use Rattle.network.specs.declared.refusals.Refusal.{Refusal}
-use Rattle.network.specs.declared.refusals.Refusal.the-variants.{NetworkCut, ColumnCount, EntryCount, NetworkLength, EntryOutside, EntryNotAfter}
-use Rattle.network.specs.Checks.{Verdict, passed, unless, bind, each-from}
+use Rattle.refusals.specs.declared.Refusal.{Refusal}
+use Rattle.refusals.specs.declared.Refusal.the-variants.{NetworkCut, ColumnCount, EntryCount, NetworkLength, EntryOutside, EntryNotAfter}
+use Rattle.refusals.specs.Checks.{Verdict, passed, unless, bind, each-from}
 use Rattle.network.specs.Entries.{after, entry-at, entries-of}
 use Rattle.network.specs.Words.{word}
 

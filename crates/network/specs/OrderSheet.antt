@@ -5,8 +5,8 @@ use lib.Dec.{eqb}
 use lib.ListN.{length}
 use Rattle.std.specs.Of.Vec.{vec-items}
 use Rattle.network.specs.declared.orders.Order.{Order}
-use Rattle.network.specs.declared.refusals.Refusal.the-variants.{OrderLength, OrderSize, OrderNumber}
-use Rattle.network.specs.Checks.{Verdict, passed, unless, bind, each-from}
+use Rattle.refusals.specs.declared.Refusal.the-variants.{OrderLength, OrderSize, OrderNumber}
+use Rattle.refusals.specs.Checks.{Verdict, passed, unless, bind, each-from}
 use Rattle.network.specs.Permutations.{in-turn}
 use Rattle.network.specs.Words.{word, words}
 

@@ -7,7 +7,7 @@ use network::Network;
 use network::Order;
 use network::Permutation;
 use network::Permuted;
-use network::RefusalDebug;
+use refusals::RefusalDebug;
 use std::alloc::Global;
 use std::test::*;
 

@@ -1,8 +1,8 @@
 // The reader, the order of entries and the lines that refusals are shown as.
 use network::Entry;
 use network::Reader;
-use network::Refusal;
-use network::RefusalDisplay;
+use refusals::Refusal;
+use refusals::RefusalDisplay;
 use std::test::*;
 
 #[test]

@@ -1,7 +1,7 @@
 // Sheets that are not in order: which number, layer and place each is refused with.
 use super::sheets;
 use network::Permuted;
-use network::Refusal;
+use refusals::Refusal;
 use std::alloc::Global;
 use std::test::*;
 

@@ -4,18 +4,18 @@ ghost use Rattle.std.specs.Results.{Cases};
 ghost use Rattle.std.specs.Vec.{made};
 ghost use Rattle.std.specs.declared.result.Result.the-variants.{Ok};
 ghost use Rattle.network.specs.BothSheets.{sheets-checked, sheets-head, SheetsWrong, Told};
-ghost use Rattle.network.specs.Checks.{Answers};
+ghost use Rattle.refusals.specs.Checks.{Answers};
 ghost use Rattle.network.specs.NetworkSheet.{pattern};
 ghost use Rattle.network.specs.OrderSheet.{orders};
 ghost use Rattle.network.specs.Permuted.{OneToOne};
-ghost use Rattle.network.specs.Wrong.{Judges};
-ghost use Rattle.network.specs.declared.refusals.Refusal.the-variants.{OutOfMemory};
+ghost use Rattle.refusals.specs.Judging.{Judges};
+ghost use Rattle.refusals.specs.declared.Refusal.the-variants.{OutOfMemory};
 use super::super::networks::check_network;
 use super::super::networks::copy_network;
 use super::super::orders::check_order;
 use super::super::orders::copy_order;
-use super::super::refusals::Refusal;
 use super::Permuted;
+use refusals::Refusal;
 use std::alloc::Global;
 
 fn check_sheets(network: &[u8], order: &[u8]) -> Result<(u16, u16), Refusal>

@@ -7,13 +7,13 @@ ghost use Rattle.std.specs.Results.{Cases};
 ghost use Rattle.network.specs.NetworkSheet.{pattern};
 ghost use Rattle.network.specs.OrderSheet.{orders};
 ghost use Rattle.network.specs.Permuted.{placed, marks-of};
-ghost use Rattle.network.specs.declared.refusals.Refusal.the-variants.{OutOfMemory};
+ghost use Rattle.refusals.specs.declared.Refusal.the-variants.{OutOfMemory};
 use super::super::entries::Entry;
 use super::super::networks::Network;
 use super::super::orders::Order;
-use super::super::refusals::Refusal;
-use super::super::refusals::RefusalFromAlloc;
 use super::Permuted;
+use refusals::Refusal;
+use refusals::RefusalFromAlloc;
 use std::alloc::Global;
 
 impl Permuted {

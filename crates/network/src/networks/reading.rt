@@ -5,19 +5,20 @@ ghost use lib.ListN.{length};
 ghost use Rattle.std.specs.Of.Vec.{vec-items};
 ghost use Rattle.std.specs.Results.{Cases};
 ghost use Rattle.std.specs.declared.result.Result.the-variants.{Ok};
-ghost use Rattle.network.specs.Checks.{Answers};
+ghost use Rattle.refusals.specs.Checks.{Answers};
 ghost use Rattle.network.specs.Entries.{entry-at, entries-of};
 ghost use Rattle.network.specs.NetworkSheet.{head-checked, entry-checked, entries-checked, network-head, network-checked, network-of, pattern};
-ghost use Rattle.network.specs.Wrong.{Judges, NetworkWrong};
-ghost use Rattle.network.specs.declared.refusals.Refusal.the-variants.{OutOfMemory};
+ghost use Rattle.refusals.specs.Judging.{Judges};
+ghost use Rattle.network.specs.Wrong.{NetworkWrong};
+ghost use Rattle.refusals.specs.declared.Refusal.the-variants.{OutOfMemory};
 use super::super::entries::Entry;
 use super::super::entries::EntryReader;
 use super::super::limits::MAX_COLUMNS;
 use super::super::limits::MAX_ENTRIES;
 use super::super::numbers::Reader;
-use super::super::refusals::Refusal;
-use super::super::refusals::RefusalFromRefused;
 use super::Network;
+use refusals::Refusal;
+use refusals::RefusalFromRefused;
 use std::alloc::Global;
 
 // n and e, where the sheet's length goes with them.

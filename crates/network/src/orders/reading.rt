@@ -2,17 +2,18 @@
 ghost use mathlib.Core.Path.{_≡_};
 ghost use Prim.Native.Nat.{_≤_};
 ghost use Rattle.std.specs.Results.{Cases};
-ghost use Rattle.network.specs.Checks.{Answers, passed};
+ghost use Rattle.refusals.specs.Checks.{Answers, passed};
 ghost use Rattle.network.specs.OrderSheet.{order-checked, order-of, orders};
-ghost use Rattle.network.specs.Wrong.{Judges, OrderWrong};
-ghost use Rattle.network.specs.declared.refusals.Refusal.the-variants.{OutOfMemory};
+ghost use Rattle.refusals.specs.Judging.{Judges};
+ghost use Rattle.network.specs.Wrong.{OrderWrong};
+ghost use Rattle.refusals.specs.declared.Refusal.the-variants.{OutOfMemory};
 use super::super::networks::Network;
 use super::super::numbers::Reader;
 use super::super::permutations::Permutation;
 use super::super::permutations::check_numbers;
 use super::super::permutations::read_numbers;
-use super::super::refusals::Refusal;
 use super::Order;
+use refusals::Refusal;
 use std::alloc::Global;
 
 // Says what is wrong first with the order sheet of a network of n columns.

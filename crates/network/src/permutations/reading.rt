@@ -9,13 +9,13 @@ ghost use Rattle.std.specs.Results.{Cases};
 ghost use Rattle.network.specs.OrderSheet.{numbers-checked};
 ghost use Rattle.network.specs.Permutations.{Distinct, Inverts};
 ghost use Rattle.network.specs.Words.{words};
-ghost use Rattle.network.specs.declared.refusals.Refusal.the-variants.{OutOfMemory};
+ghost use Rattle.refusals.specs.declared.Refusal.the-variants.{OutOfMemory};
 use super::super::limits::MAX_COLUMNS;
 use super::super::numbers::Reader;
-use super::super::refusals::Refusal;
-use super::super::refusals::RefusalFromAlloc;
-use super::super::refusals::RefusalFromRefused;
 use super::Permutation;
+use refusals::Refusal;
+use refusals::RefusalFromAlloc;
+use refusals::RefusalFromRefused;
 use std::alloc::Global;
 
 const MARKS: usize = MAX_COLUMNS as usize;

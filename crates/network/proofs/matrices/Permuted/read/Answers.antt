@@ -7,15 +7,16 @@ use Rattle.std.specs.Vec.{made}
 use Rattle.std.specs.declared.result.Result.{Result}
 use Rattle.std.specs.declared.result.Result.the-variants.{Ok, Err}
 use Rattle.network.specs.declared.matrices.Permuted.{Permuted}
-use Rattle.network.specs.declared.refusals.Refusal.{Refusal}
+use Rattle.refusals.specs.declared.Refusal.{Refusal}
 use Rattle.network.specs.BothSheets.{sheets-checked, SheetsWrong, Told}
-use Rattle.network.specs.Checks.{Answers}
+use Rattle.refusals.specs.Checks.{Answers}
 use Rattle.network.specs.NetworkSheet.{network-checked, pattern}
 use Rattle.network.specs.OrderSheet.{order-checked, orders}
 use Rattle.network.specs.Permuted.{OneToOne}
 use Rattle.network.specs.Words.{word}
-use Rattle.network.specs.Wrong.{Judges, NetworkWrong, OrderWrong}
-use Rattle.network.proofs.FirstWrong.{judges, told-then}
+use Rattle.refusals.specs.Judging.{Judges}
+use Rattle.network.specs.Wrong.{NetworkWrong, OrderWrong}
+use Rattle.refusals.proofs.FirstWrong.{judges, told-then}
 use Rattle.network.proofs.NetworkLaw.{network-law, early}
 use Rattle.network.proofs.OrderLaw.{order-law, late}
 use Rattle.network.proofs.Placing.{one-to-one}

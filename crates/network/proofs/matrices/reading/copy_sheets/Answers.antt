@@ -6,7 +6,7 @@ use Rattle.network.specs.BothSheets.{sheets-checked}
 use Rattle.network.specs.NetworkSheet.{Pattern}
 use Rattle.network.specs.OrderSheet.{Orders}
 use Rattle.network.specs.Words.{word}
-use Rattle.network.proofs.Checking.{bind-told}
+use Rattle.refusals.proofs.Checking.{bind-told}
 use Rattle.network.proofs.OrderSteps.{length-words}
 use Rattle.network.proofs.matrices.reading.copy_sheets.Needs as need
 

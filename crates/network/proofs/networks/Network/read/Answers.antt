@@ -5,11 +5,12 @@ use Prim.Native.Nat.{ℕ}
 use borrow.Author.Needs.{needs}
 use Rattle.std.specs.declared.result.Result.{Result}
 use Rattle.network.specs.declared.networks.Network.{Network}
-use Rattle.network.specs.declared.refusals.Refusal.{Refusal}
-use Rattle.network.specs.Checks.{Answers}
+use Rattle.refusals.specs.declared.Refusal.{Refusal}
+use Rattle.refusals.specs.Checks.{Answers}
 use Rattle.network.specs.NetworkSheet.{network-checked, network-of, pattern}
-use Rattle.network.specs.Wrong.{Judges, NetworkWrong}
-use Rattle.network.proofs.FirstWrong.{judges}
+use Rattle.refusals.specs.Judging.{Judges}
+use Rattle.network.specs.Wrong.{NetworkWrong}
+use Rattle.refusals.proofs.FirstWrong.{judges}
 use Rattle.network.proofs.NetworkLaw.{network-law}
 use Rattle.network.proofs.networks.Network.read.Needs as need
 

@@ -1,6 +1,6 @@
 use mathlib.Core.Path.{_≡_}
 use Prim.Native.Nat.{_-_}
-use Rattle.network.specs.Checks.{each-from}
+use Rattle.refusals.specs.Checks.{each-from}
 use Rattle.network.specs.Entries.{entry-at}
 use Rattle.network.specs.EntryReading.{Stands}
 use Rattle.network.specs.NetworkSheet.{entry-verdict, entries-checked, earlier}

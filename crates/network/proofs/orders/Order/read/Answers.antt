@@ -5,11 +5,12 @@ use Prim.Native.Nat.{ℕ}
 use borrow.Author.Needs.{needs}
 use Rattle.std.specs.declared.result.Result.{Result}
 use Rattle.network.specs.declared.orders.Order.{Order}
-use Rattle.network.specs.declared.refusals.Refusal.{Refusal}
-use Rattle.network.specs.Checks.{Answers}
+use Rattle.refusals.specs.declared.Refusal.{Refusal}
+use Rattle.refusals.specs.Checks.{Answers}
 use Rattle.network.specs.OrderSheet.{order-checked, order-of, orders}
-use Rattle.network.specs.Wrong.{Judges, OrderWrong}
-use Rattle.network.proofs.FirstWrong.{judges}
+use Rattle.refusals.specs.Judging.{Judges}
+use Rattle.network.specs.Wrong.{OrderWrong}
+use Rattle.refusals.proofs.FirstWrong.{judges}
 use Rattle.network.proofs.OrderLaw.{order-law}
 use Rattle.network.proofs.orders.Order.read.Needs as need
 

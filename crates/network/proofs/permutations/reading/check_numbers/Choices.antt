@@ -1,6 +1,6 @@
 use mathlib.Core.Path.{_≡_}
 use Prim.Native.Nat.{_+_, _-_, _*_}
-use Rattle.network.specs.Checks.{each-from}
+use Rattle.refusals.specs.Checks.{each-from}
 use Rattle.network.specs.OrderSheet.{number-verdict, numbers-checked}
 use Rattle.network.specs.Words.{words}
 use Rattle.network.proofs.Permuting.{Marks}

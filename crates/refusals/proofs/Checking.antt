@@ -7,8 +7,8 @@ use native.Mathlib.Omega.{arith}
 use Rattle.std.specs.declared.result.Result.{Result}
 use Rattle.std.specs.declared.result.Result.the-variants.{Ok, Err}
 use Rattle.std.proofs.shelf.Tests.{cases-eq}
-use Rattle.network.specs.declared.refusals.Refusal.{Refusal}
-use Rattle.network.specs.Checks.{Verdict, passed, unless, bind, each-from}
+use Rattle.refusals.specs.declared.Refusal.{Refusal}
+use Rattle.refusals.specs.Checks.{Verdict, passed, unless, bind, each-from}
 
 -- ---- what is left to check gives the answer: at one check, and at the end
 each-from-more : (check : ℕ → Verdict) (t n : ℕ) → t < n → each-from check t (n - t) ≡ bind (check t) (λ _. each-from check (t + 1) (n - (t + 1)))

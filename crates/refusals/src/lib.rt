@@ -1,8 +1,8 @@
 // Why a call is turned down: a number, a layer and a place, and one line for a person.
 ghost use mathlib.Core.Path.{_≡_};
-ghost use Rattle.network.specs.Refusals.{number-of, layer-of, letter-of, place-of, meaning-of, line-of};
+ghost use Rattle.refusals.specs.Refusals.{number-of, layer-of, letter-of, place-of, meaning-of, line-of};
 ghost use Rattle.std.specs.declared.option.Option.the-variants.{Some};
-ghost use Rattle.network.specs.declared.refusals.Refusal.the-variants.{OutOfMemory};
+ghost use Rattle.refusals.specs.declared.Refusal.the-variants.{OutOfMemory};
 use std::alloc::AllocError;
 use std::alloc::Refused;
 use std::fmt;

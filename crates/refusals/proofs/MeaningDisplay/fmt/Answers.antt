@@ -6,9 +6,9 @@ use Rattle.std.specs.Written.{Prints}
 use Rattle.std.specs.declared.fmt.Error.{Error}
 use Rattle.std.specs.declared.fmt.Formatter.{Formatter}
 use Rattle.std.specs.declared.result.Result.{Result}
-use Rattle.network.specs.declared.refusals.Refusal.{Refusal}
-use Rattle.network.specs.Refusals.{meaning-of}
-use Rattle.network.proofs.refusals.MeaningDisplay.fmt.Needs as need
+use Rattle.refusals.specs.declared.Refusal.{Refusal}
+use Rattle.refusals.specs.Refusals.{meaning-of}
+use Rattle.refusals.proofs.MeaningDisplay.fmt.Needs as need
 
 told : {W : Type 0} (took : W → List ℕ → W → Type 0) (f f′ : Formatter W) (r : Result (Unit {0}) Error) (x y : Refusal) → x ≡ y → Prints took f r (meaning-of y) f′ → Prints took f r (meaning-of x) f′
 told took f f′ r x y is shows = subst (λ (z : Refusal). Prints took f r (meaning-of z) f′) (sym is) shows

@@ -8,9 +8,9 @@ use Rattle.std.specs.Results.{Cases}
 use Rattle.std.specs.declared.result.Result.{Result}
 use Rattle.std.specs.declared.result.Result.the-variants.{Ok, Err}
 use Rattle.std.proofs.shelf.Tests.{cases-eq}
-use Rattle.network.specs.declared.refusals.Refusal.{Refusal}
-use Rattle.network.specs.Checks.{Verdict, passed, unless, bind, Answers}
-use Rattle.network.specs.Wrong.{turn, First, NothingWrong, Judges}
+use Rattle.refusals.specs.declared.Refusal.{Refusal}
+use Rattle.refusals.specs.Checks.{Verdict, passed, unless, bind, Answers}
+use Rattle.refusals.specs.Judging.{turn, First, NothingWrong, Judges}
 
 -- of the checks whose turn is m or later, r tells the first that fails
 pub record Fails (Wrong : Refusal → Type 0) (m : ℕ) (refusal : Refusal) : Type 0 where

@@ -4,10 +4,10 @@ use Prim.Native.Nat.{ℕ}
 use lib.Chars.{codes}
 use lib.Utf8.{encode}
 use Rattle.std.specs.Written.{decimal}
-use Rattle.network.specs.declared.refusals.Layer.{Layer}
-use Rattle.network.specs.declared.refusals.Layer.the-variants.{NetworkSheet, OrderSheet, Memory}
-use Rattle.network.specs.declared.refusals.Refusal.{Refusal}
-use Rattle.network.specs.declared.refusals.Refusal.the-variants.{OutOfMemory, NetworkCut, ColumnCount, EntryCount, NetworkLength, EntryOutside, EntryNotAfter, OrderLength, OrderSize, OrderNumber}
+use Rattle.refusals.specs.declared.Layer.{Layer}
+use Rattle.refusals.specs.declared.Layer.the-variants.{NetworkSheet, OrderSheet, Memory}
+use Rattle.refusals.specs.declared.Refusal.{Refusal}
+use Rattle.refusals.specs.declared.Refusal.the-variants.{OutOfMemory, NetworkCut, ColumnCount, EntryCount, NetworkLength, EntryOutside, EntryNotAfter, OrderLength, OrderSize, OrderNumber}
 
 abbrev pub number-of : Refusal → ℕ
 number-of OutOfMemory = 0
