@@ -1,5 +1,4 @@
 pub mod EntrySteps
-pub mod Looking
 pub mod Marking
 pub mod NetworkFacts
 pub mod NetworkLaw

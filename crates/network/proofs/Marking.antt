@@ -9,24 +9,21 @@ use lib.Dec.{eqb, ltb}
 use lib.ListN.{length, getD, take, set, replicate}
 use Rattle.std.specs.Iters.{counting}
 use Rattle.std.specs.Of.Vec.{vec-items, vec-len}
-use Rattle.std.specs.Finite.{nth}
-use Rattle.std.specs.Options.{mapped}
 use Rattle.std.specs.declared.option.Option.{Option}
 use Rattle.std.specs.declared.option.Option.the-variants.{Some, None}
-use Rattle.std.proofs.shelf.Maps.{nth-getD}
 use Rattle.std.proofs.shelf.Bits.{mul-add-lt, div-mul-add, mod-mul-add, div-below, mod-below, div-add-mod'}
 use Rattle.std.proofs.shelf.Counted.{fill-by-all}
 use Rattle.std.proofs.shelf.Lists.{map-more, length-set, getD-set-same, getD-set-other, getD-replicate, length-replicate, take-all}
-use Rattle.std.proofs.shelf.Tests.{cases-eq, eq-eqb, eqb-true, lt-ltb, and-from, and-parts, or-right, cases-bool}
+use Rattle.std.proofs.shelf.Tests.{cases-eq, eq-eqb, eqb-true, lt-ltb, and-from, and-parts, or-right, cases-bool, cond-true}
 use Rattle.network.specs.declared.entries.Entry.{Entry}
 use Rattle.network.specs.declared.matrices.Permuted.{Permuted}
 use Rattle.network.specs.Entries.{origin}
 use Rattle.network.specs.NetworkSheet.{Pattern, pattern}
 use Rattle.network.specs.OrderSheet.{Orders, orders}
 use Rattle.network.specs.Permutations.{position}
-use Rattle.network.specs.Permuted.{has-entry, permuted, placed, placed-at, marks-of}
+use Rattle.network.specs.Permuted.{has-entry, permuted, placed, placed-at, place-told, marks-of}
 use Rattle.network.proofs.Permuting.{or-false, position-is}
-use Rattle.network.proofs.Placing.{some-is, never-none, keeps, p-size, q-size, long, row-inside, column-inside, row-stands, column-stands}
+use Rattle.network.proofs.Placing.{some-is, never-none, p-size, q-size, long, row-inside, column-inside, row-stands, column-stands}
 
 abbrev at : Entry → ℕ → ℕ → Bool
 at x r c = eqb (x .row) r && eqb (x .column) c
@@ -100,14 +97,10 @@ has-placed n o i k rows columns (x ∷ xs) within =
 -- all entries marked
 module _ (m : Permuted) where
   rows-match : (i : ℕ) → i < m .network .n → (v : ℕ) → v < m .network .n → eqb (position (orders (m .order) .rows) v) i ≡ eqb v (getD (orders (m .order) .rows) i 0)
-  rows-match i inside v below =
-      position-is (vec-items (m .order .rows .numbers)) (vec-items (m .order .rows .positions)) _ _ (m .order .rows .numbers .ok .0) (keeps (m .order .rows)) v i
-      (omega (arith, p-size m)) (omega (arith, p-size m))
+  rows-match i inside v below = position-is (m .order .rows) v i (omega (arith, p-size m)) (omega (arith, p-size m))
 
   columns-match : (k : ℕ) → k < m .network .n → (v : ℕ) → v < m .network .n → eqb (position (orders (m .order) .columns) v) k ≡ eqb v (getD (orders (m .order) .columns) k 0)
-  columns-match k inside v below =
-      position-is (vec-items (m .order .columns .numbers)) (vec-items (m .order .columns .positions)) _ _ (m .order .columns .numbers .ok .0) (keeps (m .order .columns)) v k
-      (omega (arith, q-size m)) (omega (arith, q-size m))
+  columns-match k inside v below = position-is (m .order .columns) v k (omega (arith, q-size m)) (omega (arith, q-size m))
 
   pub marked-all : (marks : List Bool) (t : ℕ) → length (vec-items (m .network .entries)) ≤ t → Marked (m .network .n) (orders (m .order)) (vec-items (m .network .entries)) t marks → marks ≡ marks-of (pattern (m .network)) (orders (m .order))
   marked-all marks t end marked =
@@ -128,11 +121,11 @@ module _ (m : Permuted) where
   pub placed-inside : (t : ℕ) → t < length (vec-items (m .network .entries)) → (placed (orders (m .order)) (getD (vec-items (m .network .entries)) t origin) .row < m .network .n) × (placed (orders (m .order)) (getD (vec-items (m .network .entries)) t origin) .column < m .network .n)
   placed-inside t h = (row-stands m _ (row-inside m t h) .0, column-stands m _ (column-inside m t h) .0)
 
-  told : (t : ℕ) → t < length (vec-items (m .network .entries)) → (o : Option Entry) → o ≡ mapped (placed (orders (m .order))) (nth (vec-items (m .network .entries)) t) → o ≡ Some (placed (orders (m .order)) (getD (vec-items (m .network .entries)) t origin))
-  told t h o is = is ∙ ap (mapped (placed (orders (m .order)))) (nth-getD (vec-items (m .network .entries)) t origin h)
+  told : (t : ℕ) → t < length (vec-items (m .network .entries)) → (o : Option Entry) → o ≡ place-told (pattern (m .network)) (orders (m .order)) t → o ≡ Some (placed-at (pattern (m .network)) (orders (m .order)) t)
+  told t h o is = is ∙ cond-true _ _ _ (lt-ltb _ _ h)
 
   -- one turn: the place that was told is marked
-  pub step : (n t : ℕ) (marks : List Bool) (x : Entry) → n ≡ m .network .n → t < length (vec-items (m .network .entries)) → Some x ≡ mapped (placed (orders (m .order))) (nth (vec-items (m .network .entries)) t) → Marked n (orders (m .order)) (vec-items (m .network .entries)) t marks → (x .row * n + x .column < length marks) × Marked n (orders (m .order)) (vec-items (m .network .entries)) (t + 1) (set marks (x .row * n + x .column) true)
+  pub step : (n t : ℕ) (marks : List Bool) (x : Entry) → n ≡ m .network .n → t < length (vec-items (m .network .entries)) → Some x ≡ place-told (pattern (m .network)) (orders (m .order)) t → Marked n (orders (m .order)) (vec-items (m .network .entries)) t marks → (x .row * n + x .column < length marks) × Marked n (orders (m .order)) (vec-items (m .network .entries)) (t + 1) (set marks (x .row * n + x .column) true)
   step n t marks x size h is marked =
       let o = orders (m .order) in
       let xs = vec-items (m .network .entries) in
@@ -142,7 +135,7 @@ module _ (m : Permuted) where
       subst (λ (y : Entry). (y .row * n + y .column < length marks) × Marked n o xs (t + 1) (set marks (y .row * n + y .column) true)) (sym same)
       (subst (λ (k : ℕ). placed o (getD xs t origin) .row * n + placed o (getD xs t origin) .column < k) (sym (marked .whole)) (inside n o xs t marks marked h row column), marked-more n o xs t marks marked h row column)
 
-  pub always : (t : ℕ) → t < length (vec-items (m .network .entries)) → None ≡ mapped (placed (orders (m .order))) (nth (vec-items (m .network .entries)) t) → ⊥
+  pub always : (t : ℕ) → t < length (vec-items (m .network .entries)) → None ≡ place-told (pattern (m .network)) (orders (m .order)) t → ⊥
   always t h is = never-none (sym (told t h None is))
 
   pub end : (n t : ℕ) (marks : List Bool) → n ≡ m .network .n → length (vec-items (m .network .entries)) ≤ t → Marked n (orders (m .order)) (vec-items (m .network .entries)) t marks → marks ≡ marks-of (pattern (m .network)) (orders (m .order))

@@ -12,7 +12,7 @@ use Rattle.std.proofs.shelf.Tests.{ltb-true, ltb-false, eqb-true, eqb-false, an
 use Rattle.refusals.specs.declared.Refusal.{Refusal}
 use Rattle.refusals.specs.declared.Refusal.the-variants.{OrderLength, OrderSize, OrderNumber}
 use Rattle.refusals.specs.Checks.{Verdict, passed, unless, bind, each-from}
-use Rattle.network.specs.OrderSheet.{number-verdict, numbers-checked, order-checked}
+use Rattle.network.specs.OrderSheet.{number-verdict, numbers-checked, size-checked, order-checked}
 use Rattle.network.specs.Permutations.{met, in-turn, Distinct}
 use Rattle.network.specs.Words.{word, words}
 use Rattle.refusals.specs.Judging.{turn}
@@ -36,10 +36,10 @@ pub record Passed (n : ℕ) (bytes : List ℕ) : Type 0 where
 
 pub order-passed : (n : ℕ) (bytes : List ℕ) → order-checked n bytes ≡ passed → Passed n bytes
 order-passed n bytes all =
-    let both : Verdict = bind (numbers-checked n (words bytes 2 n) 0) (λ _. numbers-checked n (words bytes (2 + 2 * n) n) n) in
-    let a = unless-passed (eqb (length bytes) (2 + 4 * n)) (OrderLength (length bytes)) (unless (eqb (word bytes 0) n) (OrderSize (word bytes 0)) both) tt all in
-    let b = unless-passed (eqb (word bytes 0) n) (OrderSize (word bytes 0)) both tt (a .1) in
-    let c = bind-passed (numbers-checked n (words bytes 2 n) 0) (λ _. numbers-checked n (words bytes (2 + 2 * n) n) n) tt (b .1) in
+    let lists = λ (x : Unit {0}). bind (numbers-checked n (words bytes 2 n) 0) (λ _. numbers-checked n (words bytes (2 + 2 * n) n) n) in
+    let two = bind-passed (size-checked n bytes) lists tt all in
+    let a = unless-passed (eqb (length bytes) (2 + 4 * n)) (OrderLength (length bytes)) (unless (eqb (word bytes 0) n) (OrderSize (word bytes 0)) passed) tt (two .1) in
+    let c = bind-passed (numbers-checked n (words bytes 2 n) 0) (λ _. numbers-checked n (words bytes (2 + 2 * n) n) n) tt (two .2) in
     record {
       whole = eqb-true _ _ (a .0);
       rows = numbers-passed n 0 (words bytes 2 n) (length-words bytes 2 n) (c .1);
@@ -142,9 +142,18 @@ module _ (n : ℕ) (bytes : List ℕ) where
       (λ i inside fails. subst (λ (k : ℕ). OrderWrong n bytes (OrderNumber k)) (sym (zero-add i)) (row-number i inside (misnumbered n rows i fails)))
       good-rows from-columns n 0 (omega arith)
 
+  lists : Verdict
+  lists = bind (numbers-checked n rows 0) (λ _. numbers-checked n columns n)
+
+  chain : order-checked n bytes ≡ unless (eqb (length bytes) (2 + 4 * n)) (OrderLength (length bytes)) (unless (eqb (word bytes 0) n) (OrderSize (word bytes 0)) lists)
+  unfolding lists
+  chain = simp bind-unless
+
   pub order-law : Told (OrderWrong n bytes) (order-checked n bytes)
+  unfolding lists
   order-law =
       told-from (OrderWrong n bytes) (order-checked n bytes) (from-late (OrderWrong n bytes) (2 ^ 20) (order-checked n bytes) late
+      (subst (From (OrderWrong n bytes) (2 ^ 20)) (sym chain)
       (from-unless (OrderWrong n bytes) (2 ^ 20) (eqb (length bytes) (2 + 4 * n)) (OrderLength (length bytes)) _ refl (λ fails. long (eqb-false _ _ fails)) not-long
-      (from-unless (OrderWrong n bytes) (2 ^ 20 + 1) (eqb (word bytes 0) n) (OrderSize (word bytes 0)) _ refl (λ fails. size (eqb-false _ _ fails)) not-size
-      from-rows)))
+      (from-unless (OrderWrong n bytes) (2 ^ 20 + 1) (eqb (word bytes 0) n) (OrderSize (word bytes 0)) lists refl (λ fails. size (eqb-false _ _ fails)) not-size
+      from-rows))))

@@ -4,17 +4,17 @@ use mathlib.Core.Bool.{Bool, true, false, not, _&&_}
 use mathlib.Core.List.{List, [], _∷_, _++_, map}
 use Prim.Native.Nat.{ℕ, _+_, _-_, _*_, _≤_, _<_}
 use native.Mathlib.Omega.{arith}
-use lib.Dec.{leb, ltb, eqb}
+use lib.Dec.{leb, ltb}
 use lib.ListN.{length, getD, set}
 use Rattle.std.specs.Iters.{counting}
 use Rattle.std.specs.declared.option.Option.{Option}
 use Rattle.std.specs.declared.option.Option.the-variants.{Some, None}
 use Rattle.std.specs.declared.result.Result.the-variants.{Err}
 use Rattle.std.proofs.shelf.Counted.{getD-map-counting, length-map-counting, map-counting-more}
-use Rattle.std.proofs.shelf.Tests.{cond-true, le-leb, eq-eqb}
+use Rattle.std.proofs.shelf.Tests.{cond-true, le-leb}
 use Rattle.refusals.specs.declared.Refusal.the-variants.{OrderNumber}
-use Rattle.refusals.specs.Checks.{Verdict, passed, unless, bind, each-from}
-use Rattle.network.specs.OrderSheet.{number-verdict, numbers-checked, order-checked}
+use Rattle.refusals.specs.Checks.{Verdict, passed, unless, each-from}
+use Rattle.network.specs.OrderSheet.{number-verdict, numbers-checked}
 use Rattle.network.specs.Permutations.{in-turn}
 use Rattle.network.specs.Words.{word, words, word-read, past}
 use Rattle.refusals.proofs.Checking.{each-from-goes, each-from-stops}
@@ -78,11 +78,3 @@ pub one-more : (bytes : List ℕ) (p n i x : ℕ) (xs ys : List ℕ) → i < n �
 one-more bytes p n i x xs ys more is all items =
     let value = is ∙ words-at bytes p n i more in
     items ∙ (λ k. all k ++ value k ∷ []) ∙ sym (map-counting-more (λ t. word bytes (p + 2 * t)) 0 i i (omega arith))
-
--- all checks of an order sheet, as they are made
-pub whole : (bytes : List ℕ) (n found : ℕ) (rest : Verdict) → length bytes ≡ 2 + 4 * n → found ≡ word bytes 0 → found ≡ n → passed ≡ numbers-checked n (words bytes 2 n) 0 → rest ≡ numbers-checked n (words bytes (2 + 2 * n) n) n → rest ≡ order-checked n bytes
-whole bytes n found rest long is same rows columns =
-    columns
-    ∙ ap (λ (v : Verdict). bind v (λ _. numbers-checked n (words bytes (2 + 2 * n) n) n)) rows
-    ∙ sym (cond-true (eqb (word bytes 0) n) _ _ (eq-eqb (word bytes 0) n (sym is ∙ same)))
-    ∙ sym (cond-true (eqb (length bytes) (2 + 4 * n)) _ _ (eq-eqb (length bytes) (2 + 4 * n) long))

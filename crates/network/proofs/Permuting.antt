@@ -1,6 +1,6 @@
 -- Numbers that are below n and not met before. Assumes nothing.
 use mathlib.Core.Path.{_≡_, refl, sym, ap, subst, _∙_}
-use mathlib.Core.Bool.{Bool, true, false, not, cond, _&&_, _||_}
+use mathlib.Core.Bool.{Bool, true, false, not, _&&_, _||_}
 use mathlib.Core.Logic.{_⊎_, inl, inr, ⊎-elim}
 use mathlib.Core.List.{List, [], _∷_, _++_}
 use Prim.Native.Nat.{ℕ, zero, suc, _+_, _≤_, _<_}
@@ -9,11 +9,10 @@ use native.Mathlib.Omega.{arith}
 use borrow.Author.Count.{below-more}
 use lib.Dec.{eqb, ltb}
 use lib.ListN.{length, getD, take, set, replicate}
-use Rattle.std.specs.Finite.{nth}
-use Rattle.std.specs.declared.option.Option.the-variants.{Some, None}
-use Rattle.std.proofs.shelf.Maps.{nth-getD, nth-past}
+use Rattle.std.specs.Of.Vec.{vec-items, vec-len}
 use Rattle.std.proofs.shelf.Lists.{take-more, take-all, length-take, getD-take, length-set, length-replicate, getD-replicate, getD-set-same, getD-set-other}
-use Rattle.std.proofs.shelf.Tests.{cases-eq, cases-bool, eq-eqb, ne-eqb, or-left, or-right, and-left, and-parts, not-true, both-ways, ltb-true, eqb-true, cond-true, cond-false, cases-lt, lt-ltb, le-ltb}
+use Rattle.std.proofs.shelf.Tests.{cases-eq, cases-bool, eq-eqb, ne-eqb, or-left, or-right, and-left, and-parts, not-true, both-ways, ltb-true, eqb-true, cond-true, cond-false}
+use Rattle.network.specs.declared.permutations.Permutation.{Permutation}
 use Rattle.network.specs.Permutations.{met, in-turn, position, Distinct, Inverts}
 
 pub or-false : (a b : Bool) → b ≡ false → a ≡ (a || b)
@@ -182,8 +181,8 @@ stands xs once v below =
     found xs v (all-of-them (length xs) xs (ap (how-many (length xs)) (sym whole) ∙ all) v below)
 
 -- ---- a permutation with the index of each number
-pub there : (xs ps : List ℕ) → Distinct xs → Inverts ps xs → (v : ℕ) → v < length xs → getD ps v 0 ≡ position xs v
-there xs ps once inverts v below =
+position-told : (xs ps : List ℕ) → Distinct xs → Inverts ps xs → (v : ℕ) → v < length xs → getD ps v 0 ≡ position xs v
+position-told xs ps once inverts v below =
     let at = stands xs once v below in
     subst (λ (w : ℕ). getD ps w 0 ≡ position xs v) (at .1) (inverts .1 (position xs v) (at .0))
 
@@ -192,60 +191,23 @@ abbrev pub Kept : List ℕ → List ℕ → ℕ → ℕ → Type 0
 Kept xs ps len len′ =
     (len ≤ 512) × ((len′ ≡ len)
     × (((i : ℕ) → i < len → getD xs i 0 < len)
-    × (((v : ℕ) → v < len → (getD ps v 0 < len) × (getD xs (getD ps v 0) 0 ≡ v))
-    × (((i : ℕ) → i < len → getD ps (getD xs i 0) 0 ≡ i) × Unit {0}))))
+    × (((v : ℕ) → v < len → (position xs v < len) × (getD xs (position xs v) 0 ≡ v))
+    × (((i : ℕ) → i < len → position xs (getD xs i 0) ≡ i)
+    × (((v : ℕ) → v < len → getD ps v 0 ≡ position xs v) × Unit {0})))))
 
 pub kept : (xs ps : List ℕ) (len len′ : ℕ) → len ≡ length xs → len′ ≡ length ps → length xs ≤ 512 → Distinct xs → Inverts ps xs → Kept xs ps len len′
 kept xs ps len len′ is is′ few once inverts =
-    let at : Kept xs ps (length xs) (length ps) = (
-      few,
-      (
-        inverts .0,
-        (
-          below-length xs once,
-          (
-            λ v below.
-                let same = there xs ps once inverts v below in
-                let stand = stands xs once v below in
-                (subst (λ (i : ℕ). i < length xs) (sym same) (stand .0), subst (λ (i : ℕ). getD xs i 0 ≡ v) (sym same) (stand .1)),
-            (inverts .1, tt),
-          ),
-        ),
-      ),
-    ) in
+    let told = position-told xs ps once inverts in
+    let below = below-length xs once in
+    let at : Kept xs ps (length xs) (length ps) =
+    (few, (inverts .0, (below, (stands xs once, ((λ i inside. sym (told (getD xs i 0) (below i inside)) ∙ inverts .1 i inside), (told, tt)))))) in
     subst (λ (l : ℕ). Kept xs ps l len′) (sym is) (subst (λ (l : ℕ). Kept xs ps (length xs) l) (sym is′) at)
 
--- from a permutation's own promise
-module _ (xs ps : List ℕ) (len len′ : ℕ) (is : len ≡ length xs) (keeps : Kept xs ps len len′) where
-  -- each number stands at its position
-  pub kept-stands : (v : ℕ) → v < len → (position xs v < len) × (getD xs (position xs v) 0 ≡ v)
-  kept-stands v below =
-      let at = keeps .1 .1 .1 .0 v below in
-      let here = met-here xs (length xs) (getD ps v 0) v (omega (arith, at .0)) (omega (arith, at .0)) (at .1) in
-      let first = found xs v (ap (met v) (sym (take-all (length xs) xs (omega arith))) ∙ here) in
-      (omega (arith, first .0), first .1)
-
-  pub position-kept : (v : ℕ) → v < len → getD ps v 0 ≡ position xs v
-  position-kept v below =
-      let at = kept-stands v below in
-      subst (λ (w : ℕ). getD ps w 0 ≡ position xs v) (at .1) (keeps .1 .1 .1 .1 .0 (position xs v) (at .0))
-
-  -- and the position of the number at i is i
-  pub kept-back : (i : ℕ) → i < len → position xs (getD xs i 0) ≡ i
-  kept-back i below = sym (position-kept (getD xs i 0) (keeps .1 .1 .0 i below)) ∙ keeps .1 .1 .1 .1 .0 i below
-
-  pub position-is : (v i : ℕ) → v < len → i < len → eqb (position xs v) i ≡ eqb v (getD xs i 0)
-  position-is v i below inside =
-      ⊎-elim
-      (λ (same : position xs v ≡ i). eq-eqb _ _ same ∙ sym (eq-eqb _ _ (sym (kept-stands v below .1) ∙ ap (λ (k : ℕ). getD xs k 0) same)))
-      (λ (apart : position xs v ≡ i → ⊥). ne-eqb _ _ apart ∙ sym (ne-eqb _ _ (λ same. apart (ap (position xs) same ∙ kept-back i inside))))
-      (cases-eq (position xs v) i)
-
--- what `get` finds in the positions
-pub position-got : (xs ps : List ℕ) (len len′ : ℕ) → len ≡ length xs → len′ ≡ length ps → Kept xs ps len len′ → (v : ℕ) → nth ps v ≡ cond (ltb v len) (Some (position xs v)) None
-position-got xs ps len len′ is is′ keeps v =
+-- a number stands at i exactly if its position is i
+pub position-is : (p : Permutation) (v i : ℕ) → v < vec-len (p .numbers) → i < vec-len (p .numbers) → eqb (position (vec-items (p .numbers)) v) i ≡ eqb v (getD (vec-items (p .numbers)) i 0)
+position-is p v i below inside =
+    let xs = vec-items (p .numbers) in
     ⊎-elim
-    (λ (below : v < len).
-    nth-getD ps v 0 (omega (arith, keeps .1 .0)) ∙ ap Some (position-kept xs ps len len′ is keeps v below) ∙ sym (cond-true (ltb v len) _ _ (lt-ltb v len below)))
-    (λ (past : len ≤ v). nth-past ps v (omega (arith, keeps .1 .0)) ∙ sym (cond-false (ltb v len) _ _ (le-ltb v len past)))
-    (cases-lt v len)
+    (λ (same : position xs v ≡ i). eq-eqb _ _ same ∙ sym (eq-eqb _ _ (sym (p .stands v below .1) ∙ ap (λ (k : ℕ). getD xs k 0) same)))
+    (λ (apart : position xs v ≡ i → ⊥). ne-eqb _ _ apart ∙ sym (ne-eqb _ _ (λ same. apart (ap (position xs) same ∙ p .back i inside))))
+    (cases-eq (position xs v) i)

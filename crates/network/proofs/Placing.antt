@@ -8,22 +8,17 @@ use native.Mathlib.Numerals.{add-one}
 use native.Mathlib.Omega.{arith}
 use lib.Dec.{eqb, ltb}
 use lib.ListN.{length, getD}
-use Rattle.std.specs.Finite.{nth}
-use Rattle.std.specs.Options.{mapped}
 use Rattle.std.specs.declared.option.Option.{Option}
 use Rattle.std.specs.declared.option.Option.the-variants.{Some, None}
-use Rattle.std.proofs.shelf.Maps.{nth-getD, nth-past}
 use Rattle.std.specs.Of.Vec.{vec-items, vec-len}
-use Rattle.std.proofs.shelf.Tests.{cases-eq, cases-bool, eq-eqb, eqb-true, ltb-true, lt-ltb, and-parts, and-from, or-left, or-right, or-cases, both-ways, cases-lt, cond-true}
+use Rattle.std.proofs.shelf.Tests.{cases-eq, cases-bool, eq-eqb, eqb-true, ltb-true, lt-ltb, and-parts, and-from, or-left, or-right, or-cases, both-ways}
 use Rattle.network.specs.declared.entries.Entry.{Entry}
 use Rattle.network.specs.declared.matrices.Permuted.{Permuted}
-use Rattle.network.specs.declared.permutations.Permutation.{Permutation}
 use Rattle.network.specs.Entries.{after, origin}
 use Rattle.network.specs.NetworkSheet.{Pattern, pattern}
 use Rattle.network.specs.OrderSheet.{Orders, orders}
 use Rattle.network.specs.Permutations.{position}
-use Rattle.network.specs.Permuted.{has-entry, permuted, placed, place-in, placed-at, OneToOne}
-use Rattle.network.proofs.Permuting.{Kept, kept-stands, kept-back, position-is}
+use Rattle.network.specs.Permuted.{has-entry, permuted, placed, placed-at, OneToOne}
 
 -- ---- a search through the entries
 pub has-there : (xs : List Entry) (t : ℕ) → t < length xs → has-entry xs (getD xs t origin .row) (getD xs t origin .column) ≡ true
@@ -88,9 +83,6 @@ some-is {x} {y} e = cc
 pub never-none : {x : Entry} → _≡_ {A = Option Entry} (Some x) None → ⊥
 never-none {x} e = let z : _≡_ {A = ℕ} 0 1 = cc in omega arith
 
-pub keeps : (p : Permutation) → Kept (vec-items (p .numbers)) (vec-items (p .positions)) (vec-len (p .numbers)) (vec-len (p .positions))
-keeps p = (p .small, (p .long, (p .below, (p .there, (p .back, tt)))))
-
 -- ---- a network and an order of the same size
 module _ (m : Permuted) where
   abbrev n : ℕ
@@ -115,20 +107,10 @@ module _ (m : Permuted) where
   long = sym (m .network .entries .ok .0)
 
   pub row-stands : (v : ℕ) → v < n → (position p v < n) × (getD p (position p v) 0 ≡ v)
-  row-stands v below =
-      let at = kept-stands p (vec-items (m .order .rows .positions)) _ _ (m .order .rows .numbers .ok .0) (keeps (m .order .rows)) v (omega (arith, p-size)) in
-      (omega (arith, at .0, p-size), at .1)
+  row-stands v below = let at = m .order .rows .stands v (omega (arith, p-size)) in (omega (arith, at .0, p-size), at .1)
 
   pub column-stands : (v : ℕ) → v < n → (position q v < n) × (getD q (position q v) 0 ≡ v)
-  column-stands v below =
-      let at = kept-stands q (vec-items (m .order .columns .positions)) _ _ (m .order .columns .numbers .ok .0) (keeps (m .order .columns)) v (omega (arith, q-size)) in
-      (omega (arith, at .0, q-size), at .1)
-
-  row-back : (i : ℕ) → i < n → position p (getD p i 0) ≡ i
-  row-back i below = kept-back p (vec-items (m .order .rows .positions)) _ _ (m .order .rows .numbers .ok .0) (keeps (m .order .rows)) i (omega (arith, p-size))
-
-  column-back : (k : ℕ) → k < n → position q (getD q k 0) ≡ k
-  column-back k below = kept-back q (vec-items (m .order .columns .positions)) _ _ (m .order .columns .numbers .ok .0) (keeps (m .order .columns)) k (omega (arith, q-size))
+  column-stands v below = let at = m .order .columns .stands v (omega (arith, q-size)) in (omega (arith, at .0, q-size), at .1)
 
   -- each entry lies inside
   pub row-inside : (t : ℕ) → t < length xs → getD xs t origin .row < n
@@ -150,7 +132,7 @@ module _ (m : Permuted) where
       let two = and-parts (ltb i n && ltb k n) (has-entry xs (getD p i 0) (getD q k 0)) e in
       let in-size = and-parts (ltb i n) (ltb k n) (two .0) in
       let there = has-found xs (getD p i 0) (getD q k 0) (two .1) in
-      (there .0, there .1, ap (position p) (there .2) ∙ row-back i (ltb-true i n (in-size .0)), ap (position q) (there .3) ∙ column-back k (ltb-true k n (in-size .1)))
+      (there .0, there .1, ap (position p) (there .2) ∙ m .order .rows .back i (omega (arith, p-size, ltb-true i n (in-size .0))), ap (position q) (there .3) ∙ m .order .columns .back k (omega (arith, q-size, ltb-true k n (in-size .1))))
 
   apart : (s t : ℕ) → s < t → t < length xs → placed-at (pattern (m .network)) (orders (m .order)) s ≡ placed-at (pattern (m .network)) (orders (m .order)) t → ⊥
   apart s t below inside same =
@@ -160,18 +142,3 @@ module _ (m : Permuted) where
 
   pub one-to-one : OneToOne (pattern (m .network)) (orders (m .order))
   one-to-one = record { in-B = in-B; from-sheet = from-sheet; apart = apart }
-
-  -- an entry of the sheet lies inside, so the order has a place for it
-  pub place-is : (t : ℕ) (x : Entry) → Some x ≡ nth xs t → place-in (vec-len (m .order .rows .numbers)) (orders (m .order)) x ≡ mapped (placed (orders (m .order))) (nth xs t)
-  place-is t x is =
-      ⊎-elim
-      (λ (h : t < length xs).
-      let same : x ≡ getD xs t origin = some-is (is ∙ nth-getD xs t origin h) in
-      let row = subst (λ (y : Entry). y .row < n) (sym same) (row-inside t h) in
-      let column = subst (λ (y : Entry). y .column < n) (sym same) (column-inside t h) in
-      let len = vec-len (m .order .rows .numbers) in
-      let row-in : x .row < len = omega (arith, p-size, row) in
-      let column-in : x .column < len = omega (arith, p-size, column) in
-      cond-true _ _ _ (and-from (ltb (x .row) len) (ltb (x .column) len) (lt-ltb _ _ row-in) (lt-ltb _ _ column-in)) ∙ ap (mapped (placed (orders (m .order)))) is)
-      (λ (past : length xs ≤ t). absurd (never-none (is ∙ nth-past xs t past)))
-      (cases-lt t (length xs))

@@ -17,12 +17,17 @@ number-verdict n xs base i = unless (in-turn n xs i) (OrderNumber (base + i)) pa
 abbrev pub numbers-checked : ℕ → List ℕ → ℕ → Verdict
 numbers-checked n xs base = each-from (number-verdict n xs base) 0 n
 
--- n is the network's
-abbrev pub order-checked : ℕ → List ℕ → Verdict
-order-checked n bytes =
+-- the sheet's length and its own n, where n is the network's
+abbrev pub size-checked : ℕ → List ℕ → Verdict
+size-checked n bytes =
     unless (eqb (length bytes) (2 + 4 * n)) (OrderLength (length bytes))
     (unless (eqb (word bytes 0) n) (OrderSize (word bytes 0))
-    (bind (numbers-checked n (words bytes 2 n) 0) (λ _. numbers-checked n (words bytes (2 + 2 * n) n) n)))
+    passed)
+
+abbrev pub order-checked : ℕ → List ℕ → Verdict
+order-checked n bytes =
+    bind (size-checked n bytes)
+    (λ _. bind (numbers-checked n (words bytes 2 n) 0) (λ _. numbers-checked n (words bytes (2 + 2 * n) n) n))
 
 -- a row order and a column order: each lists, for B's rows or columns, the network's
 pub record Orders : Type 0 where

@@ -35,6 +35,10 @@ place-in n o x = cond (ltb (x .row) n && ltb (x .column) n) (Some (placed o x)) 
 abbrev pub placed-at : Pattern → Orders → ℕ → Entry
 placed-at m o t = placed o (getD (m .entries) t origin)
 
+-- the same, if there is such an entry
+abbrev pub place-told : Pattern → Orders → ℕ → Option Entry
+place-told m o t = cond (ltb t (length (m .entries))) (Some (placed-at m o t)) None
+
 -- the sheet's entries and B's are the same ones, each once
 pub record OneToOne (m : Pattern) (o : Orders) : Type 0 where
   pub in-B : (t : ℕ) → t < length (m .entries) → permuted m o (placed-at m o t .row) (placed-at m o t .column) ≡ true

@@ -3,7 +3,7 @@ ghost use mathlib.Core.Path.{_≡_};
 ghost use Prim.Native.Nat.{_≤_};
 ghost use Rattle.std.specs.Results.{Cases};
 ghost use Rattle.refusals.specs.Checks.{Answers, passed};
-ghost use Rattle.network.specs.OrderSheet.{order-checked, order-of, orders};
+ghost use Rattle.network.specs.OrderSheet.{size-checked, order-checked, order-of, orders};
 ghost use Rattle.refusals.specs.Judging.{Judges};
 ghost use Rattle.network.specs.Wrong.{OrderWrong};
 ghost use Rattle.refusals.specs.declared.Refusal.the-variants.{OutOfMemory};
@@ -16,10 +16,9 @@ use super::Order;
 use refusals::Refusal;
 use std::alloc::Global;
 
-// Says what is wrong first with the order sheet of a network of n columns.
-pub fn check_order(sheet: &[u8], n: u16) -> Result<(), Refusal>
-    requires { ⌜ n ≤ 512 ⌝ }
-    ensures { λ r. ⌜ r ≡ order-checked n (now (sheet .entry)) ⌝ }
+// Its length, and then its n, which has to be the network's.
+fn check_size(sheet: &[u8], n: u16) -> Result<(), Refusal>
+    ensures { λ r. ⌜ r ≡ size-checked n (now (sheet .entry)) ⌝ }
 {
     if sheet.len() != 2 + 4 * n as usize {
         return Err(Refusal::OrderLength(sheet.len()));
@@ -30,6 +29,15 @@ pub fn check_order(sheet: &[u8], n: u16) -> Result<(), Refusal>
     if found != n {
         return Err(Refusal::OrderSize(found));
     }
+    Ok(())
+}
+
+// Says what is wrong first with the order sheet of a network of n columns.
+pub fn check_order(sheet: &[u8], n: u16) -> Result<(), Refusal>
+    requires { ⌜ n ≤ 512 ⌝ }
+    ensures { λ r. ⌜ r ≡ order-checked n (now (sheet .entry)) ⌝ }
+{
+    check_size(sheet, n)?;
     check_numbers(sheet, 2, n, 0)?;
     check_numbers(sheet, 2 + 2 * n as usize, n, n as usize)
 }

@@ -2,7 +2,7 @@
 ghost use mathlib.Core.Path.{_≡_};
 ghost use mathlib.Core.Bool.{cond};
 ghost use lib.Dec.{ltb};
-ghost use Rattle.std.specs.Finite.{nth};
+ghost use lib.ListN.{getD};
 ghost use Rattle.std.specs.Of.Vec.{vec-items, vec-len};
 ghost use Rattle.std.specs.declared.option.Option.the-variants.{Some, None};
 ghost use Rattle.network.specs.Permutations.{position};
@@ -17,7 +17,7 @@ impl Permutation {
 
     // The number at an index, if there is such an index.
     pub fn number(&self, index: usize) -> Option<u16>
-        ensures { λ r. ⌜ r ≡ nth (vec-items (now (self .entry) .numbers)) index ⌝ }
+        ensures { λ r. ⌜ r ≡ cond (ltb index (vec-len (now (self .entry) .numbers))) (Some (getD (vec-items (now (self .entry) .numbers)) index 0)) None ⌝ }
     {
         self.numbers.get(index).copied()
     }
