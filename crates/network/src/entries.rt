@@ -25,14 +25,14 @@ impl Entry {
 
 // Reads entries from a sheet that has their rows in one list and their columns in another.
 #[derive(Drop)]
-pub struct EntryReader<'a> {
+pub(crate) struct EntryReader<'a> {
     rows: Reader<'a>,
     columns: Reader<'a>,
 }
 
 impl<'a> EntryReader<'a> {
     // At the first entry of a network sheet that has e of them.
-    pub fn new(sheet: &'a [u8], e: u16) -> EntryReader<'a>
+    pub(crate) fn new(sheet: &'a [u8], e: u16) -> EntryReader<'a>
         ensures { λ r. ⌜ Stands (now (sheet .entry)) e 0 r ⌝ }
     {
         let rows = Reader::new(sheet, 4);
@@ -41,7 +41,7 @@ impl<'a> EntryReader<'a> {
     }
 
     // The next entry; nothing where the sheet ends before it.
-    pub fn next(&mut self) -> Option<Entry>
+    pub(crate) fn next(&mut self) -> Option<Entry>
         ensures { λ r. ⌜ ((bytes : List ℕ) (e t : ℕ) → Stands bytes e t (now (self .entry)) → 4 + 4 * e ≤ length bytes → t < e → (r ≡ Some (entry-at bytes e t)) × Stands bytes e (t + 1) (now (self .exit))) ⌝ }
     {
         let row = self.rows.next()?;

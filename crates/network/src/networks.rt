@@ -10,8 +10,8 @@ use super::entries::Entry;
 mod reading;
 mod tellers;
 
-pub use reading::check_network;
-pub use reading::copy_network;
+pub(crate) use reading::check_network;
+pub(crate) use reading::copy_network;
 
 #[derive(Drop)]
 pub struct Network {

@@ -6,8 +6,8 @@ use super::permutations::Permutation;
 mod reading;
 mod tellers;
 
-pub use reading::check_order;
-pub use reading::copy_order;
+pub(crate) use reading::check_order;
+pub(crate) use reading::copy_order;
 
 #[derive(Drop)]
 pub struct Order {

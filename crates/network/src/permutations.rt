@@ -8,8 +8,8 @@ ghost use Rattle.std.specs.Of.Vec.{vec-len, vec-items};
 mod reading;
 mod tellers;
 
-pub use reading::check_numbers;
-pub use reading::read_numbers;
+pub(crate) use reading::check_numbers;
+pub(crate) use reading::read_numbers;
 
 #[derive(Drop)]
 pub struct Permutation {

@@ -90,7 +90,7 @@ fn copy_entries(heap: Global, sheet: &[u8], e: u16) -> Result<Vec<Entry>, Refusa
 }
 
 // n and e of a sheet in order, or the first thing that is wrong with it.
-pub fn check_network(sheet: &[u8]) -> Result<(u16, u16), Refusal>
+pub(crate) fn check_network(sheet: &[u8]) -> Result<(u16, u16), Refusal>
     ensures { λ r. ⌜ r ≡ network-head (now (sheet .entry)) ⌝ }
 {
     let (n, e) = check_head(sheet)?;
@@ -99,7 +99,7 @@ pub fn check_network(sheet: &[u8]) -> Result<(u16, u16), Refusal>
 }
 
 // Reads a sheet that was checked.
-pub fn copy_network(heap: Global, sheet: &[u8], n: u16, e: u16) -> Result<Network, Refusal>
+pub(crate) fn copy_network(heap: Global, sheet: &[u8], n: u16, e: u16) -> Result<Network, Refusal>
     requires { ⌜ network-head (now sheet) ≡ Ok (n, e) ⌝ }
     ensures { λ r. ⌜ Cases r (λ m. pattern m ≡ network-of (now (sheet .entry))) (λ refusal. refusal ≡ OutOfMemory) ⌝ }
 {

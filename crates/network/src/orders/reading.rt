@@ -33,7 +33,7 @@ fn check_size(sheet: &[u8], n: u16) -> Result<(), Refusal>
 }
 
 // Says what is wrong first with the order sheet of a network of n columns.
-pub fn check_order(sheet: &[u8], n: u16) -> Result<(), Refusal>
+pub(crate) fn check_order(sheet: &[u8], n: u16) -> Result<(), Refusal>
     requires { ⌜ n ≤ 512 ⌝ }
     ensures { λ r. ⌜ r ≡ order-checked n (now (sheet .entry)) ⌝ }
 {
@@ -43,7 +43,7 @@ pub fn check_order(sheet: &[u8], n: u16) -> Result<(), Refusal>
 }
 
 // Reads a sheet that was checked.
-pub fn copy_order(heap: Global, sheet: &[u8], n: u16) -> Result<Order, Refusal>
+pub(crate) fn copy_order(heap: Global, sheet: &[u8], n: u16) -> Result<Order, Refusal>
     requires { ⌜ n ≤ 512 ⌝ ∗ ⌜ order-checked n (now sheet) ≡ passed ⌝ }
     ensures { λ r. ⌜ Cases r (λ o. orders o ≡ order-of n (now (sheet .entry))) (λ refusal. refusal ≡ OutOfMemory) ⌝ }
 {

@@ -29,7 +29,7 @@ fn is_new(seen: &[bool], n: u16, number: u16) -> bool
 }
 
 // Refuses the first of the n numbers from `at` on that is n or more, or met before; its first index is called `base`.
-pub fn check_numbers(sheet: &[u8], at: usize, n: u16, base: usize) -> Result<(), Refusal>
+pub(crate) fn check_numbers(sheet: &[u8], at: usize, n: u16, base: usize) -> Result<(), Refusal>
     requires { ⌜ n ≤ 512 ⌝ ∗ ⌜ at + 2 * n ≤ length (now sheet) ⌝ ∗ ⌜ base ≤ 512 ⌝ }
     ensures { λ r. ⌜ r ≡ numbers-checked n (words (now (sheet .entry)) at n) base ⌝ }
 {
@@ -75,7 +75,7 @@ fn invert(heap: Global, numbers: &[u16]) -> Result<Vec<u16>, Refusal>
 }
 
 // Reads the n numbers from `at` on, which were checked.
-pub fn read_numbers(heap: Global, sheet: &[u8], at: usize, n: u16) -> Result<Permutation, Refusal>
+pub(crate) fn read_numbers(heap: Global, sheet: &[u8], at: usize, n: u16) -> Result<Permutation, Refusal>
     requires { ⌜ n ≤ 512 ⌝ ∗ ⌜ at + 2 * n ≤ length (now sheet) ⌝ ∗ ⌜ Distinct (words (now sheet) at n) ⌝ }
     ensures { λ r. ⌜ Cases r (λ p. vec-items (p .numbers) ≡ words (now (sheet .entry)) at n) (λ refusal. refusal ≡ OutOfMemory) ⌝ }
 {
