@@ -75,7 +75,12 @@ fn invert(heap: Global, numbers: &[u16]) -> Result<Vec<u16>, Refusal>
 }
 
 // Reads the n numbers from `at` on, which were checked.
-pub(crate) fn read_numbers(heap: Global, sheet: &[u8], at: usize, n: u16) -> Result<Permutation, Refusal>
+pub(crate) fn read_numbers(
+    heap: Global,
+    sheet: &[u8],
+    at: usize,
+    n: u16,
+) -> Result<Permutation, Refusal>
     requires { ⌜ n ≤ 512 ⌝ ∗ ⌜ at + 2 * n ≤ length (now sheet) ⌝ ∗ ⌜ Distinct (words (now sheet) at n) ⌝ }
     ensures { λ r. ⌜ Cases r (λ p. vec-items (p .numbers) ≡ words (now (sheet .entry)) at n) (λ refusal. refusal ≡ OutOfMemory) ⌝ }
 {
