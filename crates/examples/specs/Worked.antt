@@ -1,12 +1,12 @@
 -- The worked networks, from the bytes of their sheets on, by the definitions that the contracts cite. Assumes nothing.
 use mathlib.Core.Path.{_≡_}
-use mathlib.Core.Bool.{Bool, true, false}
-use mathlib.Core.List.{List, [], _∷_, _++_, map}
+use mathlib.Core.Bool.{true, false}
+use mathlib.Core.List.{List, [], _∷_, _++_}
 use Prim.Native.Nat.{ℕ, _/_, _%_}
 use Rattle.network.specs.declared.entries.Entry.{Entry}
 use Rattle.network.specs.BothSheets.{sheets-checked}
-use Rattle.network.specs.NetworkSheet.{Pattern, network-of}
-use Rattle.network.specs.OrderSheet.{Orders, order-of}
+use Rattle.network.specs.NetworkSheet.{network-of}
+use Rattle.network.specs.OrderSheet.{order-of}
 use Rattle.network.specs.Permuted.{marks-of}
 use Rattle.refusals.specs.Checks.{passed}
 
@@ -30,4 +30,4 @@ pub record WorkedNetwork : Type 0 where
   pub told : network-of worked-network ≡ record { size = 4; entries = entry 0 0 ∷ entry 2 0 ∷ entry 1 1 ∷ entry 3 1 ∷ entry 0 2 ∷ entry 2 2 ∷ entry 3 2 ∷ entry 0 3 ∷ entry 1 3 ∷ entry 3 3 ∷ [] }
   pub ordered : order-of 4 plain-order ≡ record { rows = 0 ∷ 1 ∷ 2 ∷ 3 ∷ []; columns = 0 ∷ 1 ∷ 2 ∷ 3 ∷ [] }
   pub pattern : marks-of (network-of worked-network) (order-of 4 plain-order)
-    ≡ (true ∷ false ∷ true ∷ true ∷ []) ++ (false ∷ true ∷ false ∷ true ∷ []) ++ (true ∷ false ∷ true ∷ false ∷ []) ++ (false ∷ true ∷ true ∷ true ∷ [])
+      ≡ (true ∷ false ∷ true ∷ true ∷ []) ++ (false ∷ true ∷ false ∷ true ∷ []) ++ (true ∷ false ∷ true ∷ false ∷ []) ++ (false ∷ true ∷ true ∷ true ∷ [])

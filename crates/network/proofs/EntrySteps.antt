@@ -1,19 +1,18 @@
 -- One turn of the loops over a network sheet's entries. Assumes nothing.
 use mathlib.Core.Path.{_≡_, sym, ap, _∙_}
 use mathlib.Core.List.{List, [], _∷_, _++_, map}
-use mathlib.Core.Bool.{true, cond}
 use Prim.Native.Nat.{ℕ, _+_, _-_, _<_}
 use native.Mathlib.Numerals.{add-one}
 use native.Mathlib.Omega.{arith}
 use Rattle.std.specs.Iters.{counting}
 use Rattle.std.specs.declared.option.Option.{Option}
 use Rattle.std.specs.declared.option.Option.the-variants.{Some, None}
-use Rattle.std.specs.declared.result.Result.the-variants.{Ok, Err}
+use Rattle.std.specs.declared.result.Result.the-variants.{Err}
 use Rattle.std.proofs.shelf.Counted.{map-counting-more}
 use Rattle.network.specs.declared.entries.Entry.{Entry}
 use Rattle.refusals.specs.declared.Refusal.{Refusal}
 use Rattle.refusals.specs.Checks.{Verdict, passed, each-from}
-use Rattle.network.specs.Entries.{entry-at, entries-of}
+use Rattle.network.specs.Entries.{entry-at}
 use Rattle.network.specs.NetworkSheet.{entry-checked, entry-verdict, entries-checked, earlier}
 use Rattle.refusals.proofs.Checking.{each-from-goes, each-from-stops}
 

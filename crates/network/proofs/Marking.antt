@@ -1,14 +1,13 @@
 -- The marks of the permuted matrix's entries, row by row. Assumes nothing.
 use mathlib.Core.Path.{_≡_, refl, sym, ap, subst, _∙_}
 use mathlib.Core.Bool.{Bool, true, false, _&&_, _||_}
-use mathlib.Core.Logic.{_⊎_, inl, inr, ⊎-elim}
+use mathlib.Core.Logic.{_⊎_, ⊎-elim}
 use mathlib.Core.List.{List, [], _∷_, _++_, map}
-use Prim.Native.Nat.{ℕ, zero, suc, _+_, _*_, _/_, _%_, _≤_, _<_}
+use Prim.Native.Nat.{ℕ, suc, _+_, _*_, _/_, _%_, _≤_, _<_}
 use native.Mathlib.Omega.{arith}
-use lib.Dec.{eqb, ltb}
+use lib.Dec.{eqb}
 use lib.ListN.{length, getD, take, set, replicate}
-use Rattle.std.specs.Iters.{counting}
-use Rattle.std.specs.Of.Vec.{vec-items, vec-len}
+use Rattle.std.specs.Of.Vec.{vec-items}
 use Rattle.std.specs.declared.option.Option.{Option}
 use Rattle.std.specs.declared.option.Option.the-variants.{Some, None}
 use Rattle.std.proofs.shelf.Bits.{mul-add-lt, div-mul-add, mod-mul-add, div-below, mod-below, div-add-mod'}
@@ -18,12 +17,12 @@ use Rattle.std.proofs.shelf.Tests.{cases-eq, eq-eqb, eqb-true, lt-ltb, and-from
 use Rattle.network.specs.declared.entries.Entry.{Entry}
 use Rattle.network.specs.declared.matrices.Permuted.{Permuted}
 use Rattle.network.specs.Entries.{origin}
-use Rattle.network.specs.NetworkSheet.{Pattern, pattern}
+use Rattle.network.specs.NetworkSheet.{pattern}
 use Rattle.network.specs.OrderSheet.{Orders, orders}
 use Rattle.network.specs.Permutations.{position}
 use Rattle.network.specs.Permuted.{has-entry, permuted, placed, placed-at, place-told, marks-of}
 use Rattle.network.proofs.Permuting.{or-false, position-is}
-use Rattle.network.proofs.Placing.{some-is, never-none, p-size, q-size, long, row-inside, column-inside, row-stands, column-stands}
+use Rattle.network.proofs.Placing.{some-is, never-none, p-size, q-size, row-inside, column-inside, row-stands, column-stands}
 
 abbrev at : Entry → ℕ → ℕ → Bool
 at x r c = eqb (x .row) r && eqb (x .column) c

@@ -8,13 +8,12 @@ use native.Mathlib.Numerals.{add-one}
 use native.Mathlib.Omega.{arith}
 use lib.Dec.{leb, ltb, eqb}
 use lib.ListN.{length}
-use Rattle.std.specs.declared.result.Result.the-variants.{Ok}
 use Rattle.std.proofs.shelf.Tests.{leb-true, leb-false, ltb-true, ltb-false, eqb-true, eqb-false, and-parts, and-cases, true≢false, both-ways, cases-lt}
 use Rattle.refusals.specs.declared.Refusal.{Refusal}
 use Rattle.refusals.specs.declared.Refusal.the-variants.{NetworkCut, ColumnCount, EntryCount, NetworkLength, EntryOutside, EntryNotAfter}
 use Rattle.refusals.specs.Checks.{Verdict, passed, unless, bind, each-from}
 use Rattle.network.specs.Entries.{after, entry-at}
-use Rattle.network.specs.NetworkSheet.{within, head-checked, follows, earlier, entry-checked, entry-verdict, entries-checked, network-checked}
+use Rattle.network.specs.NetworkSheet.{within, follows, earlier, entry-verdict, entries-checked, network-checked}
 use Rattle.network.specs.Words.{word}
 use Rattle.refusals.specs.Judging.{turn, First}
 use Rattle.network.specs.Wrong.{Outside, NetworkWrong}

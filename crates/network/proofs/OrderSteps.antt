@@ -1,24 +1,22 @@
 -- One turn of the loops over an order's numbers. Assumes nothing.
-use mathlib.Core.Path.{_≡_, refl, sym, ap, subst, _∙_}
+use mathlib.Core.Path.{_≡_, sym, ap, subst, _∙_}
 use mathlib.Core.Bool.{Bool, true, false, not, _&&_}
-use mathlib.Core.List.{List, [], _∷_, _++_, map}
+use mathlib.Core.List.{List, [], _∷_, _++_}
 use Prim.Native.Nat.{ℕ, _+_, _-_, _*_, _≤_, _<_}
 use native.Mathlib.Omega.{arith}
 use lib.Dec.{leb, ltb}
-use lib.ListN.{length, getD, set}
-use Rattle.std.specs.Iters.{counting}
+use lib.ListN.{length, getD}
 use Rattle.std.specs.declared.option.Option.{Option}
 use Rattle.std.specs.declared.option.Option.the-variants.{Some, None}
 use Rattle.std.specs.declared.result.Result.the-variants.{Err}
 use Rattle.std.proofs.shelf.Counted.{getD-map-counting, length-map-counting, map-counting-more}
 use Rattle.std.proofs.shelf.Tests.{cond-true, le-leb}
 use Rattle.refusals.specs.declared.Refusal.the-variants.{OrderNumber}
-use Rattle.refusals.specs.Checks.{Verdict, passed, unless, each-from}
+use Rattle.refusals.specs.Checks.{passed, unless, each-from}
 use Rattle.network.specs.OrderSheet.{number-verdict, numbers-checked}
-use Rattle.network.specs.Permutations.{in-turn}
 use Rattle.network.specs.Words.{word, words, word-read, past}
 use Rattle.refusals.proofs.Checking.{each-from-goes, each-from-stops}
-use Rattle.network.proofs.Permuting.{Marks, marks-none, marks-more, new-is}
+use Rattle.network.proofs.Permuting.{Marks, new-is}
 
 pub word-there : (bytes : List ℕ) (p : ℕ) → p + 2 ≤ length bytes → word-read bytes p ≡ Some (word bytes p)
 word-there bytes p h = cond-true (leb (p + 2) (length bytes)) (Some (word bytes p)) None (le-leb (p + 2) (length bytes) h)
@@ -52,12 +50,6 @@ module _ (bytes here : List ℕ) (p n i at : ℕ) (same : here ≡ bytes) (stand
 
   pub next-stands : (to : ℕ) → to ≡ past here at → to ≡ p + 2 * (i + 1)
   next-stands to is = omega (arith, is, goes-on)
-
-  pub never-past : (o : Option ℕ) → o ≡ None → o ≡ word-read here at → ⊥
-  never-past o none got =
-      let there = reads in
-      let z : _≡_ {A = ℕ} 0 1 = cc in
-      omega arith
 
 -- the test of the number at i, by marks
 module _ (xs : List ℕ) (n base i x : ℕ) (seen : List Bool) (few : n ≤ 512) (more : i < n) (is : x ≡ getD xs i 0) (marks : Marks seen xs i)

@@ -1,9 +1,9 @@
 -- The sheet's entries and those of the permuted matrix correspond. Assumes nothing.
 use mathlib.Core.Path.{_≡_, refl, sym, ap, subst, _∙_}
-use mathlib.Core.Bool.{Bool, true, false, _&&_, _||_}
+use mathlib.Core.Bool.{true, false, _&&_}
 use mathlib.Core.Logic.{_⊎_, inl, inr, ⊎-elim}
-use mathlib.Core.List.{List, [], _∷_, map}
-use Prim.Native.Nat.{ℕ, zero, suc, _+_, _*_, _≤_, _<_}
+use mathlib.Core.List.{List, [], _∷_}
+use Prim.Native.Nat.{ℕ, zero, suc, _+_, _<_}
 use native.Mathlib.Numerals.{add-one}
 use native.Mathlib.Omega.{arith}
 use lib.Dec.{eqb, ltb}
@@ -11,14 +11,14 @@ use lib.ListN.{length, getD}
 use Rattle.std.specs.declared.option.Option.{Option}
 use Rattle.std.specs.declared.option.Option.the-variants.{Some, None}
 use Rattle.std.specs.Of.Vec.{vec-items, vec-len}
-use Rattle.std.proofs.shelf.Tests.{cases-eq, cases-bool, eq-eqb, eqb-true, ltb-true, lt-ltb, and-parts, and-from, or-left, or-right, or-cases, both-ways}
+use Rattle.std.proofs.shelf.Tests.{cases-eq, eq-eqb, eqb-true, ltb-true, lt-ltb, and-parts, and-from, or-left, or-right, or-cases, both-ways}
 use Rattle.network.specs.declared.entries.Entry.{Entry}
 use Rattle.network.specs.declared.matrices.Permuted.{Permuted}
 use Rattle.network.specs.Entries.{after, origin}
-use Rattle.network.specs.NetworkSheet.{Pattern, pattern}
-use Rattle.network.specs.OrderSheet.{Orders, orders}
+use Rattle.network.specs.NetworkSheet.{pattern}
+use Rattle.network.specs.OrderSheet.{orders}
 use Rattle.network.specs.Permutations.{position}
-use Rattle.network.specs.Permuted.{has-entry, permuted, placed, placed-at, OneToOne}
+use Rattle.network.specs.Permuted.{has-entry, permuted, placed-at, OneToOne}
 
 -- ---- a search through the entries
 pub has-there : (xs : List Entry) (t : ℕ) → t < length xs → has-entry xs (getD xs t origin .row) (getD xs t origin .column) ≡ true

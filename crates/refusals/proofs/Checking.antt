@@ -1,5 +1,5 @@
 -- Checks made one after another: as a loop makes them, and what it says that all passed. Assumes nothing.
-use mathlib.Core.Path.{_≡_, refl, ap, subst, sym, _∙_}
+use mathlib.Core.Path.{_≡_, refl, ap, subst, _∙_}
 use mathlib.Core.Bool.{Bool, true, false}
 use mathlib.Core.Logic.{⊎-elim}
 use Prim.Native.Nat.{ℕ, zero, suc, _+_, _-_, _<_, _≤_}
@@ -10,12 +10,9 @@ use Rattle.std.proofs.shelf.Tests.{cases-eq}
 use Rattle.refusals.specs.declared.Refusal.{Refusal}
 use Rattle.refusals.specs.Checks.{Verdict, passed, unless, bind, each-from}
 
--- ---- what is left to check gives the answer: at one check, and at the end
+-- ---- what is left to check gives the answer
 each-from-more : (check : ℕ → Verdict) (t n : ℕ) → t < n → each-from check t (n - t) ≡ bind (check t) (λ _. each-from check (t + 1) (n - (t + 1)))
 each-from-more check t n h = let e : n - t ≡ suc (n - (t + 1)) = omega arith in rw e
-
-pub each-from-all : (check : ℕ → Verdict) (t n : ℕ) → n ≤ t → each-from check t (n - t) ≡ passed
-each-from-all check t n h = let e : n - t ≡ 0 = omega arith in rw e
 
 pub each-from-goes : (check : ℕ → Verdict) (t n : ℕ) → t < n → check t ≡ passed → each-from check t (n - t) ≡ each-from check (t + 1) (n - (t + 1))
 each-from-goes check t n h ok = each-from-more check t n h ∙ ap (λ v. bind v (λ _. each-from check (t + 1) (n - (t + 1)))) ok

@@ -6,7 +6,7 @@ ghost use Rattle.std.specs.Of.Vec.{vec-items};
 ghost use Rattle.std.specs.Results.{Cases};
 ghost use Rattle.std.specs.declared.result.Result.the-variants.{Ok};
 ghost use Rattle.refusals.specs.Checks.{Answers};
-ghost use Rattle.network.specs.Entries.{entry-at, entries-of};
+ghost use Rattle.network.specs.Entries.{entries-of};
 ghost use Rattle.network.specs.NetworkSheet.{head-checked, entry-checked, entries-checked, network-head, network-checked, network-of, pattern};
 ghost use Rattle.refusals.specs.Judging.{Judges};
 ghost use Rattle.network.specs.Wrong.{NetworkWrong};

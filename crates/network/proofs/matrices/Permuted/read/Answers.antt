@@ -1,5 +1,4 @@
 -- The checks name the first thing that is wrong, and the entries correspond.
-use mathlib.Core.Path.{_≡_}
 use mathlib.Core.List.{List}
 use Prim.Native.Nat.{ℕ, _^_}
 use borrow.Author.Needs.{needs}

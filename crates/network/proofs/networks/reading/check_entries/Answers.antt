@@ -1,9 +1,8 @@
-use mathlib.Core.Path.{_≡_, sym, ap, _∙_}
+use mathlib.Core.Path.{sym, ap, _∙_}
 use Prim.Native.Nat.{_<_}
 use native.Mathlib.Omega.{arith}
 use Rattle.std.specs.declared.result.Result.the-variants.{Err}
 use Rattle.std.proofs.shelf.Results.{err-from-errBy}
-use Rattle.network.specs.Entries.{entry-at}
 use Rattle.network.proofs.EntrySteps.{read-is, never-none, goes, stops, now-earlier}
 use Rattle.network.proofs.networks.reading.check_entries.Needs as need
 

@@ -1,10 +1,7 @@
 -- The entries that were copied are those that passed the checks.
-use mathlib.Core.Path.{_≡_, ap, _∙_}
-use mathlib.Core.List.{List}
+use mathlib.Core.Path.{ap, _∙_}
 use Prim.Native.Nat.{ℕ}
-use Rattle.network.specs.declared.entries.Entry.{Entry}
 use Rattle.network.specs.Entries.{entries-of}
-use Rattle.network.specs.NetworkSheet.{Pattern}
 use Rattle.network.proofs.NetworkFacts.{head, kept}
 use Rattle.network.proofs.networks.reading.copy_network.Needs as need
 

@@ -1,11 +1,9 @@
-use mathlib.Core.Path.{_≡_, sym, ap, subst, _∙_}
-use mathlib.Core.Bool.{true}
-use Prim.Native.Nat.{ℕ, _<_, _≤_, _+_, _*_}
+use mathlib.Core.Path.{sym, _∙_}
+use Prim.Native.Nat.{_<_}
 use native.Mathlib.Omega.{arith}
-use lib.ListN.{length, set}
 use Rattle.network.specs.Words.{words}
-use Rattle.network.proofs.OrderSteps.{number-is, next-stands, never-past, goes, stops, start, length-words}
-use Rattle.network.proofs.Permuting.{Marks, marks-none, marks-more}
+use Rattle.network.proofs.OrderSteps.{number-is, next-stands, goes, stops, start, length-words}
+use Rattle.network.proofs.Permuting.{marks-none, marks-more}
 use Rattle.network.proofs.permutations.reading.check_numbers.Needs as need
 
 pub loop-i-holds : need.loop-i-holds

@@ -1,9 +1,9 @@
-use mathlib.Core.Path.{sym, ap, _∙_}
+use mathlib.Core.Path.{ap, _∙_}
 use Prim.Native.Nat.{_<_}
 use native.Mathlib.Omega.{arith}
 use Rattle.std.specs.Results.{isOk}
 use Rattle.std.proofs.Told.{chosen}
-use Rattle.network.proofs.OrderSteps.{number-is, next-stands, never-past, one-more}
+use Rattle.network.proofs.OrderSteps.{number-is, next-stands, one-more}
 use Rattle.network.proofs.permutations.reading.copy_numbers.Needs as need
 
 pub loop-i-again : need.loop-i-again
