@@ -9,28 +9,28 @@ use std::io;
 #[derive(Drop)]
 pub enum Failure {
     // the sheets are not in order
-    Turned(Refusal),
+    TurnedDown(Refusal),
     // the words after the program's name, or a file, are not what is needed
-    Asked(String),
+    Message(String),
     // the runtime's input or output failed
     Stream(io::Error),
 }
 
 pub impl From<Refusal> for Failure as FailureFromRefusal {
     fn from(refusal: Refusal) -> Failure {
-        Failure::Turned(refusal)
+        Failure::TurnedDown(refusal)
     }
 }
 
 pub impl From<AllocError> for Failure as FailureFromAlloc {
     fn from(_e: AllocError) -> Failure {
-        Failure::Turned(Refusal::OutOfMemory)
+        Failure::TurnedDown(Refusal::OutOfMemory)
     }
 }
 
 pub impl<T: Drop> From<Refused<T>> for Failure as FailureFromRefused {
     fn from(_e: Refused<T>) -> Failure {
-        Failure::Turned(Refusal::OutOfMemory)
+        Failure::TurnedDown(Refusal::OutOfMemory)
     }
 }
 
@@ -43,8 +43,8 @@ pub impl From<io::Error> for Failure as FailureFromIo {
 pub impl fmt::Display for Failure as FailureDisplay {
     fn fmt<W: fmt::Write>(&self, f: &mut fmt::Formatter<W>) -> fmt::Result {
         match self {
-            Failure::Turned(refusal) => write!(f, "{refusal}"),
-            Failure::Asked(text) => write!(f, "lathecress: {text}"),
+            Failure::TurnedDown(refusal) => write!(f, "{refusal}"),
+            Failure::Message(text) => write!(f, "lathecress: {text}"),
             Failure::Stream(error) => write!(f, "lathecress: {error}"),
         }
     }

@@ -68,7 +68,7 @@ fn check_sheets(rt: &LibcRuntime, network: &[u8], order: &[u8]) -> Result<(), Fa
 fn sheet(rt: &LibcRuntime, path: &str) -> Result<Vec<u8>, Failure> {
     match fs::read(rt, path) {
         Ok(bytes) => Ok(bytes),
-        Err(error) => Err(Failure::Asked(format!(rt.alloc(), "cannot read '{path}': {error}")?)),
+        Err(error) => Err(Failure::Message(format!(rt.alloc(), "cannot read '{path}': {error}")?)),
     }
 }
 
@@ -86,7 +86,7 @@ fn misused(rt: &LibcRuntime, first: &str) -> Result<(), Failure> {
             "there is no command '{first}': lathecress --help says what there is"
         )?,
     };
-    Err(Failure::Asked(text))
+    Err(Failure::Message(text))
 }
 
 fn run(rt: &LibcRuntime) -> Result<(), Failure> {
@@ -110,7 +110,7 @@ fn main(rt: LibcRuntime) -> Result<(), Failure> {
     let done = run(&rt);
     if let Err(failure) = &done {
         match failure {
-            Failure::Turned(_) => println!(rt, "{failure}")?,
+            Failure::TurnedDown(_) => println!(rt, "{failure}")?,
             _ => eprintln!(rt, "{failure}")?,
         }
     }
