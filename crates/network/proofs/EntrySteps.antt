@@ -6,7 +6,7 @@ use native.Mathlib.Numerals.{add-one}
 use native.Mathlib.Omega.{arith}
 use Rattle.std.specs.Iters.{counting}
 use Rattle.std.specs.declared.option.Option.{Option}
-use Rattle.std.specs.declared.option.Option.the-variants.{Some, None}
+use Rattle.std.specs.declared.option.Option.the-variants.{Some}
 use Rattle.std.specs.declared.result.Result.the-variants.{Err}
 use Rattle.std.proofs.shelf.Counted.{map-counting-more}
 use Rattle.network.specs.declared.entries.Entry.{Entry}
@@ -16,14 +16,7 @@ use Rattle.network.specs.Entries.{entry-at}
 use Rattle.network.specs.NetworkSheet.{entry-checked, entry-verdict, entries-checked, earlier}
 use Rattle.refusals.proofs.Checking.{each-from-goes, each-from-stops}
 
--- what was read is entry t
-pub read-is : (bytes : List ℕ) (e t : ℕ) (o : Option Entry) (x : Entry) → o ≡ Some x → o ≡ Some (entry-at bytes e t) → x ≡ entry-at bytes e t
-read-is bytes e t o x is value = cc
-
-pub never-none : (o : Option Entry) (x : Entry) → o ≡ None → o ≡ Some x → ⊥
-never-none o x none some = let z : _≡_ {A = ℕ} 0 1 = cc in omega arith
-
--- the check of it is the sheet's check of entry t
+-- the check of what was read is the sheet's check of entry t
 pub said-is : (bytes : List ℕ) (n e t : ℕ) (before : Option Entry) (x : Entry) (v : Verdict) → x ≡ entry-at bytes e t → before ≡ earlier (entry-at bytes e) t → v ≡ entry-checked n t before x → entry-verdict bytes n e t ≡ v
 said-is bytes n e t before x v is was said = sym (said ∙ (λ i. entry-checked n t (was i) (is i)))
 

@@ -2,6 +2,7 @@ pub mod EntrySteps
 pub mod Marking
 pub mod NetworkFacts
 pub mod NetworkLaw
+pub mod Optional
 pub mod OrderLaw
 pub mod OrderSteps
 pub mod Permuting

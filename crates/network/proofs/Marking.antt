@@ -21,8 +21,9 @@ use Rattle.network.specs.NetworkSheet.{pattern}
 use Rattle.network.specs.OrderSheet.{Orders, orders}
 use Rattle.network.specs.Permutations.{position}
 use Rattle.network.specs.Permuted.{has-entry, permuted, placed, placed-at, place-told, marks-of}
+use Rattle.network.proofs.Optional.{same-some, never-none}
 use Rattle.network.proofs.Permuting.{or-false, position-is}
-use Rattle.network.proofs.Placing.{some-is, never-none, p-size, q-size, row-inside, column-inside, row-stands, column-stands}
+use Rattle.network.proofs.Placing.{p-size, q-size, row-inside, column-inside, row-stands, column-stands}
 
 abbrev at : Entry → ℕ → ℕ → Bool
 at x r c = eqb (x .row) r && eqb (x .column) c
@@ -128,14 +129,14 @@ module _ (m : Permuted) where
   step n t marks x size h is marked =
       let o = orders (m .order) in
       let xs = vec-items (m .network .entries) in
-      let same = some-is (told t h (Some x) is) in
+      let same = same-some (Some x) x _ refl (told t h (Some x) is) in
       let row : placed o (getD xs t origin) .row < n = subst (λ (k : ℕ). placed o (getD xs t origin) .row < k) (sym size) (placed-inside t h .0) in
       let column : placed o (getD xs t origin) .column < n = subst (λ (k : ℕ). placed o (getD xs t origin) .column < k) (sym size) (placed-inside t h .1) in
       subst (λ (y : Entry). (y .row * n + y .column < length marks) × Marked n o xs (t + 1) (set marks (y .row * n + y .column) true)) (sym same)
       (subst (λ (k : ℕ). placed o (getD xs t origin) .row * n + placed o (getD xs t origin) .column < k) (sym (marked .whole)) (inside n o xs t marks marked h row column), marked-more n o xs t marks marked h row column)
 
   pub always : (t : ℕ) → t < length (vec-items (m .network .entries)) → None ≡ place-told (pattern (m .network)) (orders (m .order)) t → ⊥
-  always t h is = never-none (sym (told t h None is))
+  always t h is = never-none None _ refl (told t h None is)
 
   pub end : (n t : ℕ) (marks : List Bool) → n ≡ m .network .n → length (vec-items (m .network .entries)) ≤ t → Marked n (orders (m .order)) (vec-items (m .network .entries)) t marks → marks ≡ marks-of (pattern (m .network)) (orders (m .order))
   end n t marks size past marked = marked-all marks t past (subst (λ (k : ℕ). Marked k (orders (m .order)) (vec-items (m .network .entries)) t marks) size marked)

@@ -8,8 +8,6 @@ use native.Mathlib.Numerals.{add-one}
 use native.Mathlib.Omega.{arith}
 use lib.Dec.{eqb, ltb}
 use lib.ListN.{length, getD}
-use Rattle.std.specs.declared.option.Option.{Option}
-use Rattle.std.specs.declared.option.Option.the-variants.{Some, None}
 use Rattle.std.specs.Of.Vec.{vec-items, vec-len}
 use Rattle.std.proofs.shelf.Tests.{cases-eq, eq-eqb, eqb-true, ltb-true, lt-ltb, and-parts, and-from, or-left, or-right, or-cases, both-ways}
 use Rattle.network.specs.declared.entries.Entry.{Entry}
@@ -76,12 +74,6 @@ module _ (xs : List Entry) (len : ℕ) (rising : (t : ℕ) → t + 1 < len → a
       (λ (here : s ≡ t). subst (λ (k : ℕ). Before (getD xs k origin) (getD xs (suc t) origin)) (sym here) step)
       (λ (apart : s ≡ t → ⊥). before-trans _ _ _ (far s t (omega arith) (omega arith)) step)
       (cases-eq s t)
-
-pub some-is : {x y : Entry} → _≡_ {A = Option Entry} (Some x) (Some y) → x ≡ y
-some-is {x} {y} e = cc
-
-pub never-none : {x : Entry} → _≡_ {A = Option Entry} (Some x) None → ⊥
-never-none {x} e = let z : _≡_ {A = ℕ} 0 1 = cc in omega arith
 
 -- ---- a network and an order of the same size
 module _ (m : Permuted) where
