@@ -7,11 +7,13 @@ use native.Mathlib.Omega.{arith}
 use lib.Dec.{eqb}
 use Rattle.std.proofs.shelf.Tests.{eqb-true, not-false}
 use Rattle.scalar.specs.Exact.{Exact}
+use Rattle.scalar.specs.Pairs.{pairs}
 use Rattle.scalar.specs.Residues.{check-of, product-of, inverse-of, not-zero, check}
 use Rattle.scalar.specs.declared.residues.Check.{Check}
 use Rattle.scalar.proofs.Below.{passes-below, passes-at}
 use Rattle.scalar.proofs.Inverting.{same-check, inverts}
 use Rattle.exact.specs.Squares.{MinusOneNoSquare}
+use Rattle.exact.proofs.PairLaws.{pairs-exact}
 
 -- a factor may be put down to its remainder first
 remainder-times : (n k m : ℕ) → n % m * k % m ≡ n * k % m
@@ -93,3 +95,6 @@ pub minus-one-no-square : MinusOneNoSquare check
 unfolding no-root
 minus-one-no-square x p fit =
     ap (λ (one : Check). not-zero (check .sum (product-of x x) one)) (inverts p .undoes fit) ∙ passes-at no-root 251 no-roots (x .residue) (x .small)
+
+pub check-pairs-exact : Exact (pairs check)
+check-pairs-exact = pairs-exact check-exact minus-one-no-square

@@ -1,3 +1,4 @@
 pub mod Algebra
 pub mod PairLaws
 pub mod CheckLaws
+pub mod Rounded

@@ -1,2 +1,4 @@
 pub mod Field
 pub mod Squares
+pub mod Rounding
+pub mod Telling

@@ -1,11 +1,13 @@
-// What exact means, shown for each kind of number.
-ghost use Rattle.scalar.specs.Exact.{Exact};
-ghost use Rattle.exact.specs.Field.{Field};
-use scalar::Scalar;
+// What exact means, and which arithmetics are exact.
+mod exactness;
+mod theorems;
 
-// An exact arithmetic is a field.
-pub fn exact_is_field<T: Scalar>() -> u8
-    ensures { λ _. ⌜ (Exact (T·Scalar .meaning) → Field (T·Scalar .meaning)) ⌝ }
-{
-    0
-}
+pub use exactness::CheckExactness;
+pub use exactness::CheckPairExactness;
+pub use exactness::Exactness;
+pub use exactness::RealExactness;
+pub use exactness::RealPairExactness;
+pub use theorems::exact_is_field;
+pub use theorems::minus_one_is_no_square;
+pub use theorems::real_rounds;
+pub use theorems::undone;
