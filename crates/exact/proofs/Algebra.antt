@@ -101,25 +101,37 @@ module _ {X : Type 0} {m : Meaning X} (e : Exact m) where
       ⊎-elim (λ (is : m .fit (m .product x y) ≡ true). is)
       (λ (unfit : m .fit (m .product x y) ≡ false).
       let x-zero : x ≡ m .zero =
-        product-cancels x (m .zero) y fit′ (e .unfit-zero (m .product x y) unfit ∙ sym (e .product-commutative (m .zero) y ∙ zero-product y)) in
+      product-cancels x (m .zero) y fit′ (e .unfit-zero (m .product x y) unfit ∙ sym (e .product-commutative (m .zero) y ∙ zero-product y)) in
       cc (e .zero-unfit))
       (cases-bool (m .fit (m .product x y)))
 
   pub field : Field m
   field =
-      record
-        { sum-cancels = sum-cancels
-        ; difference-unique = difference-unique
-        ; zero-product = zero-product
-        ; product-over-difference = product-over-difference
-        ; one-same = one-same
-        ; one-neutral = one-neutral
-        ; product-cancels = product-cancels
-        ; quotient-unique = quotient-unique
-        ; no-zero-divisors = no-zero-divisors
-        }
+      record {
+        sum-cancels = sum-cancels;
+        difference-unique = difference-unique;
+        zero-product = zero-product;
+        product-over-difference = product-over-difference;
+        one-same = one-same;
+        one-neutral = one-neutral;
+        product-cancels = product-cancels;
+        quotient-unique = quotient-unique;
+        no-zero-divisors = no-zero-divisors;
+      }
 
 -- Opens products of sums and differences, and puts sums and products in one order: `simp (ring, e)` shows what holds in every commutative ring.
-pub ruleset ring =
-    (difference-negative, product-distributes, product-distributes-right, product-negative, negative-product, negative-of-sum, negative-negative,
-    sum-associative, sum-commutative, sum-left-commutative, product-associative, product-commutative, product-left-commutative)
+pub ruleset ring = (
+  difference-negative,
+  product-distributes,
+  product-distributes-right,
+  product-negative,
+  negative-product,
+  negative-of-sum,
+  negative-negative,
+  sum-associative,
+  sum-commutative,
+  sum-left-commutative,
+  product-associative,
+  product-commutative,
+  product-left-commutative,
+)

@@ -70,18 +70,18 @@ quotient-undone x p fit =
 
 pub check-exact : Exact check
 check-exact =
-    record
-      { sum-associative = sum-associative
-      ; sum-commutative = sum-commutative
-      ; product-associative = product-associative
-      ; product-commutative = product-commutative
-      ; product-distributes = product-distributes
-      ; zero-added = zero-added
-      ; difference-undone = difference-undone
-      ; zero-unfit = refl
-      ; unfit-zero = unfit-zero
-      ; quotient-undone = quotient-undone
-      }
+    record {
+      sum-associative = sum-associative;
+      sum-commutative = sum-commutative;
+      product-associative = product-associative;
+      product-commutative = product-commutative;
+      product-distributes = product-distributes;
+      zero-added = zero-added;
+      difference-undone = difference-undone;
+      zero-unfit = refl;
+      unfit-zero = unfit-zero;
+      quotient-undone = quotient-undone;
+    }
 
 -- n n + 1 is not 0 modulo 251
 no-root : ℕ → Bool

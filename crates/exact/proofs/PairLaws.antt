@@ -77,7 +77,7 @@ module _ {X : Type 0} {m : Meaning X} (e : Exact m) where
 
   -- c c + d d is (c / d times c / d, plus one) times d d
   square-shared : (c d : X) → m .fit d ≡ true
-    → m .product (m .sum (m .product (m .quotient c d) (m .quotient c d)) (m .quotient d d)) (m .product d d) ≡ m .sum (m .product c c) (m .product d d)
+      → m .product (m .sum (m .product (m .quotient c d) (m .quotient c d)) (m .quotient d d)) (m .product d d) ≡ m .sum (m .product c c) (m .product d d)
   square-shared c d fit =
       let r = m .quotient c d in
       cc (product-distributes-right e (m .product r r) (m .quotient d d) (m .product d d), squares-times r d, e .quotient-undone c d fit, e .product-commutative (m .quotient d d) (m .product d d), one-neutral e (m .product d d) d fit)
@@ -104,15 +104,15 @@ module _ {X : Type 0} {m : Meaning X} (e : Exact m) where
 
   pub pairs-exact : MinusOneNoSquare m → Exact (pairs m)
   pairs-exact no-square =
-      record
-        { sum-associative = λ x y z. same-pair (e .sum-associative (x .re) (y .re) (z .re)) (e .sum-associative (x .im) (y .im) (z .im))
-        ; sum-commutative = λ x y. same-pair (e .sum-commutative (x .re) (y .re)) (e .sum-commutative (x .im) (y .im))
-        ; product-associative = product-associative
-        ; product-commutative = product-commutative
-        ; product-distributes = product-distributes
-        ; zero-added = λ x. same-pair (e .zero-added (x .re)) (e .zero-added (x .im))
-        ; difference-undone = λ x y. same-pair (e .difference-undone (x .re) (y .re)) (e .difference-undone (x .im) (y .im))
-        ; zero-unfit = cc (zero-product e (m .zero), e .zero-added (m .zero), e .zero-unfit)
-        ; unfit-zero = unfit-zero no-square
-        ; quotient-undone = quotient-undone
-        }
+      record {
+        sum-associative = λ x y z. same-pair (e .sum-associative (x .re) (y .re) (z .re)) (e .sum-associative (x .im) (y .im) (z .im));
+        sum-commutative = λ x y. same-pair (e .sum-commutative (x .re) (y .re)) (e .sum-commutative (x .im) (y .im));
+        product-associative = product-associative;
+        product-commutative = product-commutative;
+        product-distributes = product-distributes;
+        zero-added = λ x. same-pair (e .zero-added (x .re)) (e .zero-added (x .im));
+        difference-undone = λ x y. same-pair (e .difference-undone (x .re) (y .re)) (e .difference-undone (x .im) (y .im));
+        zero-unfit = cc (zero-product e (m .zero), e .zero-added (m .zero), e .zero-unfit);
+        unfit-zero = unfit-zero no-square;
+        quotient-undone = quotient-undone;
+      }

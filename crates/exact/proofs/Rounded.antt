@@ -40,16 +40,16 @@ zeros-differ same = omega (arith, ap told same)
 pub rounds : Rounds
 unfolding fits finite ne
 rounds =
-    record
-      { doubles = refl
-      ; sum-not-associative = sum-not-associative
-      ; difference-not-undone = difference-not-undone
-      ; divisor-fit = refl
-      ; quotient-not-undone = quotient-not-undone
-      ; zero-changes = zero-changes
-      ; zero-unfit = refl
-      ; zeros-differ = zeros-differ
-      }
+    record {
+      doubles = refl;
+      sum-not-associative = sum-not-associative;
+      difference-not-undone = difference-not-undone;
+      divisor-fit = refl;
+      quotient-not-undone = quotient-not-undone;
+      zero-changes = zero-changes;
+      zero-unfit = refl;
+      zeros-differ = zeros-differ;
+    }
 
 pub real-not-exact : Exact real → ⊥
 real-not-exact e = sum-not-associative (e .sum-associative tenth fifth three-tenths)

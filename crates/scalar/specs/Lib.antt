@@ -4,3 +4,4 @@ pub mod Inverses
 pub mod Residues
 pub mod Pairs
 pub mod Exact
+pub mod Shown
