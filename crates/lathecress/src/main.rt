@@ -1,5 +1,6 @@
 // Reads a network and the order of its pivots, and prints what they hold, or why they are refused.
 mod failures;
+mod numbers;
 mod pictures;
 mod worked;
 
@@ -92,7 +93,10 @@ fn misused(rt: &LibcRuntime, first: &str) -> Result<(), Failure> {
 fn run(rt: &LibcRuntime) -> Result<(), Failure> {
     let words: Vec<String> = env::args(rt)?.skip(1).collect(rt.alloc())?;
     match words.as_slice() {
-        [] => check_sheets(rt, &worked::NETWORK, &worked::ORDER),
+        [] => {
+            check_sheets(rt, &worked::NETWORK, &worked::ORDER)?;
+            numbers::print_numbers(rt)
+        }
         [help] if help.as_str() == "--help" => {
             println!(rt, "{HELP}")?;
             Ok(())

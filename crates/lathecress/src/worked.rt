@@ -69,3 +69,6 @@ pub const ORDER: [u8; 18] = [
     3,
     0,
 ];
+
+// the value of each entry, in the sheet's order
+pub const VALUES: [u8; 10] = [2, 4, 4, 2, 6, 13, 3, 2, 8, 9];

@@ -31,9 +31,9 @@ fn sums_differences_and_products_of_all() -> Result<(), Fail> {
             let (a, b) = (Check::new(x), Check::new(y));
             let sum = if x + y < 251 { x + y } else { x + y - 251 };
             let difference = if y <= x { x - y } else { x + 251 - y };
-            check_eq(a.sum(b).value() as u32, sum)?;
-            check_eq(a.difference(b).value() as u32, difference)?;
-            check_eq(a.product(b).value() as u32, x * y % 251)?;
+            check_eq(a.sum(b).value(), sum)?;
+            check_eq(a.difference(b).value(), difference)?;
+            check_eq(a.product(b).value(), x * y % 251)?;
         }
     }
     Ok(())
@@ -56,7 +56,7 @@ fn inverses_of_all() -> Result<(), Fail> {
     for p in 1..251u8 {
         let inverse = tried_inverse(p);
         let divisor = Check::new(p as u32);
-        check_eq(divisor.inverse().value() as u32, inverse).note(p)?;
+        check_eq(divisor.inverse().value(), inverse).note(p)?;
         check_eq(Check::new(1).quotient(divisor), Check::new(inverse)).note(p)?;
     }
     Ok(())

@@ -1,6 +1,7 @@
 // Check: the whole numbers 0 to 250 modulo 251.
 ghost use Prim.Native.Nat.{_<_};
 
+mod inverses;
 pub mod operations;
 
 // A check number. None outside the range exists.
