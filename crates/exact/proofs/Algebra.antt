@@ -2,9 +2,9 @@
 use mathlib.Core.Path.{_≡_, refl, sym, _∙_, ap}
 use mathlib.Core.Bool.{true, false}
 use mathlib.Core.Logic.{⊎-elim}
-use Rattle.std.proofs.shelf.Tests.{cases-bool}
+use Rattle.std.proofs.shelf.Tests.{cases-bool, both-ways}
 use Rattle.scalar.specs.Meaning.{Meaning}
-use Rattle.scalar.specs.Exact.{Exact}
+use Rattle.exact.specs.Exact.{Exact}
 use Rattle.exact.specs.Field.{Field}
 
 -- zero less x
@@ -26,6 +26,13 @@ module _ {X : Type 0} {m : Meaning X} (e : Exact m) where
 
   pub product-distributes : (x y z : X) → m .product x (m .sum y z) ≡ m .sum (m .product x y) (m .product x z)
   product-distributes = e .product-distributes
+
+  pub fit-not-zero : (p : X) → m .fit p ≡ true → p ≡ m .zero → ⊥
+  fit-not-zero p fit zero = both-ways (m .fit p) (ap (m .fit) zero ∙ e .zero-unfit) fit
+
+  pub not-zero-fit : (p : X) → (p ≡ m .zero → ⊥) → m .fit p ≡ true
+  not-zero-fit p other =
+      ⊎-elim (λ (fit : m .fit p ≡ true). fit) (λ (unfit : m .fit p ≡ false). absurd (other (e .unfit-zero p unfit))) (cases-bool (m .fit p))
 
   pub zero-sum : (x : X) → m .sum (m .zero) x ≡ x
   zero-sum x = e .sum-commutative (m .zero) x ∙ e .zero-added x
@@ -108,6 +115,8 @@ module _ {X : Type 0} {m : Meaning X} (e : Exact m) where
   pub field : Field m
   field =
       record {
+        fit-not-zero = fit-not-zero;
+        not-zero-fit = not-zero-fit;
         sum-cancels = sum-cancels;
         difference-unique = difference-unique;
         zero-product = zero-product;

@@ -6,7 +6,7 @@ use native.Mathlib.Nat.{add-comm, add-assoc, add-zero, mul-comm, mul-assoc, mul-
 use native.Mathlib.Omega.{arith}
 use lib.Dec.{eqb}
 use Rattle.std.proofs.shelf.Tests.{eqb-true, not-false}
-use Rattle.scalar.specs.Exact.{Exact}
+use Rattle.exact.specs.Exact.{Exact}
 use Rattle.scalar.specs.Pairs.{pairs}
 use Rattle.scalar.specs.Residues.{check-of, product-of, inverse-of, not-zero, check}
 use Rattle.scalar.specs.declared.residues.Check.{Check}

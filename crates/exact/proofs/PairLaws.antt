@@ -4,7 +4,7 @@ use mathlib.Core.Bool.{true, false}
 use mathlib.Core.Logic.{⊎-elim}
 use Rattle.std.proofs.shelf.Tests.{cases-bool}
 use Rattle.scalar.specs.Meaning.{Meaning}
-use Rattle.scalar.specs.Exact.{Exact}
+use Rattle.exact.specs.Exact.{Exact}
 use Rattle.scalar.specs.Pairs.{pair, square-of, pairs}
 use Rattle.scalar.specs.declared.pairs.Pair.{Pair}
 use Rattle.exact.specs.Squares.{MinusOneNoSquare}

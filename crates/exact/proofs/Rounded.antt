@@ -6,7 +6,7 @@ use native.Mathlib.Omega.{arith}
 use lib.Dec.{eqb}
 use lib.Ieee.{Float, nan, inf, fin, add, sub, mul, div, ne, fits}
 use Rattle.std.specs.Floats.{finite}
-use Rattle.scalar.specs.Exact.{Exact}
+use Rattle.exact.specs.Exact.{Exact}
 use Rattle.scalar.specs.Pairs.{pair, pairs}
 use Rattle.scalar.specs.Real.{real}
 use Rattle.exact.specs.Rounding.{tenth, fifth, three-tenths, one, forty-nine, huge, negative-zero, Rounds}

@@ -5,6 +5,9 @@ use Rattle.scalar.specs.Meaning.{Meaning}
 
 -- Its one is p / p for any fit p: the same number for each, and the product with it changes nothing.
 pub record Field {X : Type 0} (m : Meaning X) : Type 0 where
+  -- a number is fit exactly when it is not zero
+  pub fit-not-zero : (p : X) → m .fit p ≡ true → p ≡ m .zero → ⊥
+  pub not-zero-fit : (p : X) → (p ≡ m .zero → ⊥) → m .fit p ≡ true
   -- what is added can be taken away again
   pub sum-cancels : (x y z : X) → m .sum x z ≡ m .sum y z → x ≡ y
   pub difference-unique : (x y z : X) → m .sum z y ≡ x → z ≡ m .difference x y

@@ -1,3 +1,4 @@
+pub mod Exact
 pub mod Field
 pub mod Squares
 pub mod Rounding

@@ -1,7 +1,7 @@
 // What follows from exactness, for any arithmetic, and how doubles fall short of it.
 ghost use mathlib.Core.Path.{_≡_};
 ghost use mathlib.Core.Bool.{true};
-ghost use Rattle.scalar.specs.Exact.{Exact};
+ghost use Rattle.exact.specs.Exact.{Exact};
 ghost use Rattle.scalar.specs.Pairs.{pairs};
 ghost use Rattle.scalar.specs.Residues.{check};
 ghost use Rattle.exact.specs.Field.{Field};

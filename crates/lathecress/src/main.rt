@@ -24,6 +24,8 @@ lathecress: a proved sparse solver for cable networks
 
 check prints n, e, the row order, the column order and the permuted pattern,
 a line for each row: x where there is an entry and . where there is none.
+On the embedded network the values, their check numbers and a table of each
+arithmetic at work follow.
 Sheets that are not in order are refused by one line,
   refused: NUMBER LAYER PLACE: what it means
 and the exit status is 1. docs/FORMATS.md has the sheets and the refusals.";

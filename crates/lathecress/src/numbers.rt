@@ -1,4 +1,7 @@
 // The arithmetics at work on the worked network's values.
+ghost use mathlib.Core.Path.{_≡_};
+ghost use mathlib.Core.Bool.{cond};
+ghost use lib.Chars.{codes};
 use super::failures::Failure;
 use super::failures::FailureFromAlloc;
 use super::failures::FailureFromIo;
@@ -37,7 +40,9 @@ const HEADINGS: [&str; 10] = [
 // how wide each column is
 const WIDTHS: [usize; 10] = [10, 5, 7, 7, 5, 7, 8, 9, 18, 0];
 
-fn yes_or_no(answer: bool) -> &'static str {
+fn yes_or_no(answer: bool) -> &'static str
+    ensures { λ r. ⌜ now r ≡ cond answer (codes "yes") (codes "no") ⌝ }
+{
     if answer { "yes" } else { "no" }
 }
 

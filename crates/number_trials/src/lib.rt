@@ -5,6 +5,8 @@ mod checks;
 #[cfg(test)]
 mod doubles;
 #[cfg(test)]
+mod exactness;
+#[cfg(test)]
 mod pairs;
 #[cfg(test)]
 mod trivial;

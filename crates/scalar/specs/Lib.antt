@@ -3,5 +3,4 @@ pub mod Real
 pub mod Inverses
 pub mod Residues
 pub mod Pairs
-pub mod Exact
 pub mod Shown
