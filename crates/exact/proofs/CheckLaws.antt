@@ -1,7 +1,7 @@
 -- Check numbers are exact, and −1 is no square among them. Assumes nothing.
-use mathlib.Core.Path.{_≡_, refl, sym, _∙_, ap, subst}
+use mathlib.Core.Path.{_≡_, refl, sym, _∙_, ap}
 use mathlib.Core.Bool.{Bool, true, false, not}
-use Prim.Native.Nat.{ℕ, _+_, _-_, _*_, _/_, _%_, _<_}
+use Prim.Native.Nat.{ℕ, _+_, _-_, _*_, _/_, _%_}
 use native.Mathlib.Nat.{add-comm, add-assoc, add-zero, mul-comm, mul-assoc, mul-one, mul-add, add-mul, mod-add-div, mod-add-mod, add-mod-mod, add-mod, add-mod-right, mod-eq-of-lt, add-mul-mod-self-left}
 use native.Mathlib.Omega.{arith}
 use lib.Dec.{eqb}

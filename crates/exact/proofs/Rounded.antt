@@ -4,7 +4,7 @@ use mathlib.Core.Bool.{_&&_, cond}
 use Prim.Native.Nat.{ℕ}
 use native.Mathlib.Omega.{arith}
 use lib.Dec.{eqb}
-use lib.Ieee.{Float, nan, inf, fin, add, sub, mul, div, ne, fits}
+use lib.Ieee.{Float, nan, inf, fin, add, sub, mul, div, ne, fits, ofBits}
 use Rattle.std.specs.Floats.{finite}
 use Rattle.exact.specs.Exact.{Exact}
 use Rattle.scalar.specs.Pairs.{pair, pairs}
@@ -30,15 +30,15 @@ unfolding mul div told
 quotient-not-undone same = omega (arith, ap told same)
 
 zero-changes : real .sum negative-zero (real .zero) ≡ negative-zero → ⊥
-unfolding add told
+unfolding add ofBits told
 zero-changes same = omega (arith, ap told same)
 
 zeros-differ : negative-zero ≡ real .zero → ⊥
-unfolding told
+unfolding ofBits told
 zeros-differ same = omega (arith, ap told same)
 
 pub rounds : Rounds
-unfolding fits finite ne
+unfolding fits finite ne ofBits
 rounds =
     record {
       doubles = refl;
@@ -46,8 +46,9 @@ rounds =
       difference-not-undone = difference-not-undone;
       divisor-fit = refl;
       quotient-not-undone = quotient-not-undone;
+      zero-positive = refl;
       zero-changes = zero-changes;
-      zero-unfit = refl;
+      negative-zero-unfit = refl;
       zeros-differ = zeros-differ;
     }
 

@@ -37,8 +37,10 @@ pub record Rounds : Type 0 where
   pub difference-not-undone : real .sum (real .difference one huge) huge ≡ one → ⊥
   pub divisor-fit : real .fit forty-nine ≡ true
   pub quotient-not-undone : real .product (real .quotient one forty-nine) forty-nine ≡ one → ⊥
+  -- zero is the positive one
+  pub zero-positive : real .zero ≡ fin false 0 (pos 0)
   -- zero added changes the sign of the other zero
   pub zero-changes : real .sum negative-zero (real .zero) ≡ negative-zero → ⊥
   -- the other zero is not fit and is not zero
-  pub zero-unfit : real .fit negative-zero ≡ false
+  pub negative-zero-unfit : real .fit negative-zero ≡ false
   pub zeros-differ : negative-zero ≡ real .zero → ⊥

@@ -1,6 +1,6 @@
-use mathlib.Core.Path.{_≡_, sym, ap, subst}
+use mathlib.Core.Path.{_≡_, sym, subst}
 use borrow.Author.Needs.{needs}
-use Rattle.scalar.specs.Residues.{check-of, inverse-of, Inverse}
+use Rattle.scalar.specs.Residues.{inverse-of, Inverse}
 use Rattle.scalar.proofs.Inverting.{inverts}
 use Rattle.scalar.proofs.residues.Check.inverse.Needs as need
 
