@@ -21,6 +21,14 @@ sum-not-associative : real .sum (real .sum tenth fifth) three-tenths ≡ real .s
 unfolding add told
 sum-not-associative same = omega (arith, ap told same)
 
+product-not-associative : real .product (real .product tenth fifth) three-tenths ≡ real .product tenth (real .product fifth three-tenths) → ⊥
+unfolding mul told
+product-not-associative same = omega (arith, ap told same)
+
+product-not-distributes : real .product three-tenths (real .sum tenth fifth) ≡ real .sum (real .product three-tenths tenth) (real .product three-tenths fifth) → ⊥
+unfolding add mul told
+product-not-distributes same = omega (arith, ap told same)
+
 difference-not-undone : real .sum (real .difference one huge) huge ≡ one → ⊥
 unfolding add sub told
 difference-not-undone same = omega (arith, ap told same)
@@ -43,6 +51,8 @@ rounds =
     record {
       doubles = refl;
       sum-not-associative = sum-not-associative;
+      product-not-associative = product-not-associative;
+      product-not-distributes = product-not-distributes;
       difference-not-undone = difference-not-undone;
       divisor-fit = refl;
       quotient-not-undone = quotient-not-undone;

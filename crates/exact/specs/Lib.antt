@@ -1,5 +1,6 @@
 pub mod Exact
 pub mod Field
 pub mod Squares
+pub mod FitDoubles
 pub mod Rounding
 pub mod Telling

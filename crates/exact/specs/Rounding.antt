@@ -1,4 +1,4 @@
--- Doubles for which the laws of an exact arithmetic fail. `fin s m e` is m times 2 to the e, negative where s is true. Assumes nothing.
+-- Doubles at which laws of an exact arithmetic fail: each law but that sum and product are commutative and that zero is not fit. `fin s m e` is m times 2 to the e, negative where s is true. Assumes nothing.
 use mathlib.Core.Path.{_≡_}
 use mathlib.Core.Bool.{true, false, _&&_}
 use lib.IntN.{pos, negsuc}
@@ -31,8 +31,10 @@ negative-zero = fin true 0 (pos 0)
 pub record Rounds : Type 0 where
   -- they are all doubles
   pub doubles : (fits binary64 tenth && fits binary64 fifth && fits binary64 three-tenths && fits binary64 one && fits binary64 forty-nine && fits binary64 huge && fits binary64 negative-zero) ≡ true
-  -- which two are added first matters
+  -- which two are added or multiplied first matters
   pub sum-not-associative : real .sum (real .sum tenth fifth) three-tenths ≡ real .sum tenth (real .sum fifth three-tenths) → ⊥
+  pub product-not-associative : real .product (real .product tenth fifth) three-tenths ≡ real .product tenth (real .product fifth three-tenths) → ⊥
+  pub product-not-distributes : real .product three-tenths (real .sum tenth fifth) ≡ real .sum (real .product three-tenths tenth) (real .product three-tenths fifth) → ⊥
   -- 1 less 2 to the 60 is rounded to −2 to the 60
   pub difference-not-undone : real .sum (real .difference one huge) huge ≡ one → ⊥
   pub divisor-fit : real .fit forty-nine ≡ true

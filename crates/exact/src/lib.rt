@@ -8,6 +8,6 @@ pub use exactness::Exactness;
 pub use exactness::RealExactness;
 pub use exactness::RealPairExactness;
 pub use theorems::exact_is_field;
+pub use theorems::laws_of_doubles;
 pub use theorems::minus_one_is_no_square;
-pub use theorems::real_rounds;
 pub use theorems::undone;

@@ -5,6 +5,7 @@ ghost use Rattle.exact.specs.Exact.{Exact};
 ghost use Rattle.scalar.specs.Pairs.{pairs};
 ghost use Rattle.scalar.specs.Residues.{check};
 ghost use Rattle.exact.specs.Field.{Field};
+ghost use Rattle.exact.specs.FitDoubles.{FitDoubles};
 ghost use Rattle.exact.specs.Rounding.{Rounds};
 ghost use Rattle.exact.specs.Squares.{MinusOneNoSquare};
 use scalar::Scalar;
@@ -25,14 +26,17 @@ pub fn exact_is_field<T: Scalar>() -> u8
     0
 }
 
+// No check number times itself is −1.
 pub fn minus_one_is_no_square() -> u8
     ensures { λ _. ⌜ MinusOneNoSquare check ⌝ }
 {
     0
 }
 
-pub fn real_rounds() -> u8
-    ensures { λ _. ⌜ Rounds ⌝ }
+// Which doubles are fit, and doubles at which a law of exact arithmetics fails.
+pub fn laws_of_doubles() -> u8
+    ensures fit { λ _. ⌜ FitDoubles ⌝ }
+    ensures rounding { λ _. ⌜ Rounds ⌝ }
 {
     0
 }
