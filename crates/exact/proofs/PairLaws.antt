@@ -5,7 +5,7 @@ use mathlib.Core.Logic.{⊎-elim}
 use Rattle.std.proofs.shelf.Tests.{cases-bool}
 use Rattle.scalar.specs.Meaning.{Meaning}
 use Rattle.exact.specs.Exact.{Exact}
-use Rattle.scalar.specs.Pairs.{pair, square-of, pairs}
+use Rattle.scalar.specs.Pairs.{pair, squared-magnitude, pairs}
 use Rattle.scalar.specs.declared.pairs.Pair.{Pair}
 use Rattle.exact.specs.Squares.{MinusOneNoSquare}
 use Rattle.exact.proofs.Algebra.{ring, product-distributes-right, difference-unique, zero-product, product-cancels, no-zero-divisors, one-neutral}
@@ -61,7 +61,7 @@ module _ {X : Type 0} {m : Meaning X} (e : Exact m) where
       let b = x .im in
       let c = p .re in
       let d = p .im in
-      let s = square-of m p in
+      let s = squared-magnitude m p in
       let top = m .sum (m .product a c) (m .product b d) in
       let low = m .difference (m .product b c) (m .product a d) in
       let q = m .quotient top s in

@@ -2,6 +2,8 @@
 ghost use mathlib.Core.Path.{_≡_};
 ghost use mathlib.Core.Bool.{cond};
 ghost use lib.Chars.{codes};
+ghost use Rattle.scalar.specs.Pairs.{pair};
+ghost use Rattle.scalar.specs.Residues.{check-of};
 use super::failures::Failure;
 use super::failures::FailureFromAlloc;
 use super::failures::FailureFromIo;
@@ -97,6 +99,22 @@ fn print_values(rt: &LibcRuntime) -> Result<(), Failure> {
     Ok(())
 }
 
+fn real_pair(re: u8, im: u8) -> Pair<f64> {
+    Pair {
+        re: re as f64,
+        im: im as f64,
+    }
+}
+
+fn check_pair(re: u8, im: u8) -> Pair<Check>
+    ensures { λ r. ⌜ r ≡ pair (check-of re) (check-of im) ⌝ }
+{
+    Pair {
+        re: Check::new(re as u32),
+        im: Check::new(im as u32),
+    }
+}
+
 // Real and check numbers, then pairs of both.
 pub fn print_numbers(rt: &LibcRuntime) -> Result<(), Failure> {
     print_values(rt)?;
@@ -107,24 +125,8 @@ pub fn print_numbers(rt: &LibcRuntime) -> Result<(), Failure> {
         print_row(rt, "check", Check::new(x as u32), Check::new(p as u32))?;
     }
     for ((a, b), (c, d)) in [((3u8, 2u8), (2u8, 4u8)), ((10, 5), (3, 4))] {
-        let x = Pair {
-            re: a as f64,
-            im: b as f64,
-        };
-        let p = Pair {
-            re: c as f64,
-            im: d as f64,
-        };
-        print_row(rt, "real pair", x, p)?;
-        let x = Pair {
-            re: Check::new(a as u32),
-            im: Check::new(b as u32),
-        };
-        let p = Pair {
-            re: Check::new(c as u32),
-            im: Check::new(d as u32),
-        };
-        print_row(rt, "check pair", x, p)?;
+        print_row(rt, "real pair", real_pair(a, b), real_pair(c, d))?;
+        print_row(rt, "check pair", check_pair(a, b), check_pair(c, d))?;
     }
     Ok(())
 }

@@ -7,8 +7,8 @@ abbrev pub pair : {X : Type 0} → X → X → Pair X
 pair a b = record { re = a; im = b }
 
 -- cc + dd for (c, d), the square of its magnitude
-abbrev pub square-of : {X : Type 0} → Meaning X → Pair X → X
-square-of m y = m .sum (m .product (y .re) (y .re)) (m .product (y .im) (y .im))
+abbrev pub squared-magnitude : {X : Type 0} → Meaning X → Pair X → X
+squared-magnitude m y = m .sum (m .product (y .re) (y .re)) (m .product (y .im) (y .im))
 
 abbrev pub pairs : {X : Type 0} → Meaning X → Meaning (Pair X)
 pairs m =
@@ -22,7 +22,7 @@ pairs m =
           (m .sum (m .product (x .re) (y .im)) (m .product (x .im) (y .re)));
       quotient = λ x y.
           pair
-          (m .quotient (m .sum (m .product (x .re) (y .re)) (m .product (x .im) (y .im))) (square-of m y))
-          (m .quotient (m .difference (m .product (x .im) (y .re)) (m .product (x .re) (y .im))) (square-of m y));
-      fit = λ y. m .fit (square-of m y);
+          (m .quotient (m .sum (m .product (x .re) (y .re)) (m .product (x .im) (y .im))) (squared-magnitude m y))
+          (m .quotient (m .difference (m .product (x .im) (y .re)) (m .product (x .re) (y .im))) (squared-magnitude m y));
+      fit = λ y. m .fit (squared-magnitude m y);
     }

@@ -1,6 +1,6 @@
 // Pairs (a, b) that stand for a + bi, over any arithmetic.
 ghost use mathlib.Core.Path.{_≡_};
-ghost use Rattle.scalar.specs.Pairs.{pairs, square-of};
+ghost use Rattle.scalar.specs.Pairs.{pairs, squared-magnitude};
 use super::arithmetic::Scalar;
 
 #[derive(Clone, Copy, PartialEq, Eq, Debug)]
@@ -9,9 +9,9 @@ pub struct Pair<T> {
     pub im: T,
 }
 
-// cc + dd for (c, d).
-fn square<T: Scalar>(y: Pair<T>) -> T
-    ensures { λ r. ⌜ r ≡ square-of (T·Scalar .meaning) y ⌝ }
+// cc + dd for (c, d), the square of its magnitude.
+fn squared_magnitude<T: Scalar>(y: Pair<T>) -> T
+    ensures { λ r. ⌜ r ≡ squared-magnitude (T·Scalar .meaning) y ⌝ }
 {
     y.re.product(y.re).sum(y.im.product(y.im))
 }
@@ -50,7 +50,7 @@ pub impl<T: Scalar> Scalar for Pair<T> as PairScalar {
     }
 
     fn quotient(self, divisor: Pair<T>) -> Pair<T> {
-        let m = square(divisor);
+        let m = squared_magnitude(divisor);
         let re = self.re.product(divisor.re).sum(self.im.product(divisor.im));
         let im = self.im
             .product(divisor.re)
@@ -62,6 +62,6 @@ pub impl<T: Scalar> Scalar for Pair<T> as PairScalar {
     }
 
     fn fit(self) -> bool {
-        square(self).fit()
+        squared_magnitude(self).fit()
     }
 }
