@@ -128,7 +128,7 @@ module _ {X : Type 0} {m : Meaning X} (e : Exact m) where
         no-zero-divisors = no-zero-divisors;
       }
 
--- Opens products of sums and differences, and puts sums and products in one order: `simp (ring, e)` shows what holds in every commutative ring.
+-- Opens products of sums and differences, and puts sums and products in one order. `simp (ring, e)` shows an equation of commutative rings in which no two terms cancel.
 pub ruleset ring = (
   difference-negative,
   product-distributes,

@@ -2,11 +2,11 @@
 use mathlib.Core.Path.{_≡_, refl, sym, _∙_, ap}
 use mathlib.Core.Bool.{Bool, true, false, not, _&&_, _||_}
 use Prim.Native.Nat.{ℕ, zero, suc, _*_, _<_}
-use native.Mathlib.Nat.{zero-mul, mul-one, mul-pos, zero-lt-suc}
+use native.Mathlib.Nat.{zero-mul, mul-one, mul-pos}
 use native.Mathlib.Omega.{arith}
 use lib.Dec.{eqb}
 use lib.IntN.{ℤ}
-use lib.Ieee.{nan, inf, fin, up, down, level, eq, ne, ofBits}
+use lib.Ieee.{fin, up, down, level, eq, ne, ofBits}
 use lib.Ieee.Fits.{up-pos}
 use Rattle.std.specs.Floats.{finite}
 use Rattle.std.proofs.shelf.Tests.{ne-eqb}

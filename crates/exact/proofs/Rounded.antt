@@ -11,7 +11,7 @@ use Rattle.scalar.specs.Pairs.{pair, pairs}
 use Rattle.scalar.specs.Real.{real}
 use Rattle.exact.specs.Rounding.{tenth, fifth, three-tenths, one, forty-nine, huge, negative-zero, Rounds}
 
--- what tells two doubles apart: m, and one more than that for a negative zero
+-- tells the doubles below apart: m, and 1 for a negative zero
 told : Float → ℕ
 told nan = 0
 told (inf s) = 0
