@@ -1,4 +1,6 @@
 // What exact means, and which arithmetics are exact.
+#![tactic(auto)]
+
 mod exactness;
 mod theorems;
 

@@ -1,4 +1,6 @@
 // Reads a network and the order of its pivots, and prints what they hold, or why they are refused.
+#![tactic(auto)]
+
 mod failures;
 mod numbers;
 mod pictures;

@@ -69,11 +69,11 @@ module _ (bytes : List ℕ) (n e : ℕ) (all : entries_checked bytes n e ≡ pas
       rw (entry_is (t + 1) h, entry_is t here) told2
 
 -- what a `Network` promises of itself, of its n and its entries
-abbrev pub Kept : ℕ → List Entry → ℕ → Type 0
-Kept n xs len =
-    ((1 ≤ n) × (n ≤ 512)) × (((1 ≤ len) × (len ≤ 8192))
-    × (((t : ℕ) → t < len → ((get_or xs t origin).row < n) × ((get_or xs t origin).column < n))
-    × (((t : ℕ) → t + 1 < len → after (get_or xs (t + 1) origin) (get_or xs t origin) ≡ true) × Unit {0})))
+pub record Kept (n : ℕ) (xs : List Entry) (len : ℕ) : Type 0 where
+  pub columns_fit : (1 ≤ n) × (n ≤ 512)
+  pub entries_fit : (1 ≤ len) × (len ≤ 8192)
+  pub inside : (t : ℕ) → t < len → ((get_or xs t origin).row < n) × ((get_or xs t origin).column < n)
+  pub rising : (t : ℕ) → t + 1 < len → after (get_or xs (t + 1) origin) (get_or xs t origin) ≡ true
 
 -- a sheet whose checks came to n and e
 module _ (bytes : List ℕ) (n e : ℕ) (checked : network_head bytes ≡ Ok (n, e)) where
@@ -98,5 +98,5 @@ module _ (bytes : List ℕ) (n e : ℕ) (checked : network_head bytes ≡ Ok (n,
   pub kept : (len : ℕ) (xs : List Entry) → xs ≡ entries_of bytes e → len ≡ length xs → Kept n xs len
   kept len xs is long =
       let long2 : len ≡ e = long ∙ ap length is ∙ length-map-range_with_len (entry_at bytes e) 0 e in
-      let there : Kept n (entries_of bytes e) e = (head.n_fits, (head.e_fits, (inside bytes n e entries_passed, (rising bytes n e entries_passed, tt)))) in
+      let there : Kept n (entries_of bytes e) e = record { columns_fit = head.n_fits; entries_fit = head.e_fits; inside = inside bytes n e entries_passed; rising = rising bytes n e entries_passed } in
       subst (λ (l : ℕ). Kept n xs l) (sym long2) (subst (λ (ys : List Entry). Kept n ys e) (sym is) there)

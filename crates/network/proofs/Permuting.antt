@@ -177,20 +177,21 @@ position_told xs ps once inverts v below =
     subst (λ (w : ℕ). get_or ps w 0 ≡ position xs v) at.1 (inverts.1 (position xs v) at.0)
 
 -- what a `Permutation` promises of itself, of its numbers and their positions
-abbrev pub Kept : List ℕ → List ℕ → ℕ → ℕ → Type 0
-Kept xs ps len len' =
-    (len ≤ 512) × ((len' ≡ len)
-    × (((i : ℕ) → i < len → get_or xs i 0 < len)
-    × (((v : ℕ) → v < len → (position xs v < len) × (get_or xs (position xs v) 0 ≡ v))
-    × (((i : ℕ) → i < len → position xs (get_or xs i 0) ≡ i)
-    × (((v : ℕ) → v < len → get_or ps v 0 ≡ position xs v) × Unit {0})))))
+pub record Kept (xs ps : List ℕ) (len len' : ℕ) : Type 0 where
+  pub small : len ≤ 512
+  pub long : len' ≡ len
+  pub below : (i : ℕ) → i < len → get_or xs i 0 < len
+  pub stands : (v : ℕ) → v < len → (position xs v < len) × (get_or xs (position xs v) 0 ≡ v)
+  pub back : (i : ℕ) → i < len → position xs (get_or xs i 0) ≡ i
+  pub told : (v : ℕ) → v < len → get_or ps v 0 ≡ position xs v
 
 pub kept : (xs ps : List ℕ) (len len' : ℕ) → len ≡ length xs → len' ≡ length ps → length xs ≤ 512 → Distinct xs → Inverts ps xs → Kept xs ps len len'
 kept xs ps len len' is is' few once inverts =
     let told = position_told xs ps once inverts in
     let below = below_length xs once in
+    let back : (i : ℕ) → i < length xs → position xs (get_or xs i 0) ≡ i = λ i inside. sym (told (get_or xs i 0) (below i inside)) ∙ inverts.1 i inside in
     let at : Kept xs ps (length xs) (length ps) =
-    (few, (inverts.0, (below, (stands xs once, ((λ i inside. sym (told (get_or xs i 0) (below i inside)) ∙ inverts.1 i inside), (told, tt)))))) in
+    record { small = few; long = inverts.0; below = below; stands = stands xs once; back = back; told = told } in
     subst (λ (l : ℕ). Kept xs ps l len') (sym is) (subst (λ (l : ℕ). Kept xs ps (length xs) l) (sym is') at)
 
 -- a number stands at i exactly if its position is i

@@ -1,4 +1,6 @@
 // The two sheets that a station sends: the network's entries, and the order in which its pivots are taken.
+#![tactic(auto)]
+
 mod entries;
 mod limits;
 mod matrices;

@@ -1,4 +1,5 @@
 // Tests of the arithmetics on examples, with expected values worked out by hand or by plain integers.
+#![tactic(auto)]
 
 #[cfg(test)]
 mod checks;

@@ -1,4 +1,6 @@
 // Why a call is turned down: a number, a layer and a place, and one line for a person.
+#![tactic(auto)]
+
 ghost use Rattle.std.specs.Prelude.{◌≡◌, Some};
 ghost use Rattle.refusals.specs.Refusals.{number_of, layer_of, letter_of, place_of, meaning_of, line_of};
 ghost use Rattle.refusals.specs.declared.Refusal.TheVariants.{OutOfMemory};

@@ -1,4 +1,6 @@
 // The numbers that a network is factored with: doubles for direct current, pairs of them for alternating current, and exact check numbers.
+#![tactic(auto)]
+
 mod arithmetic;
 mod doubles;
 mod pairs;

@@ -1,4 +1,6 @@
 // The plan of a factorization: which places are filled, which columns each column awaits, and in which order they are taken.
+#![tactic(auto)]
+
 mod fills;
 mod levels;
 mod patterns;

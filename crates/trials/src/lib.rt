@@ -1,4 +1,5 @@
 // Tests of the library on examples, with expected values worked out by hand from the formats.
+#![tactic(auto)]
 
 #[cfg(test)]
 mod granted;

@@ -9,10 +9,10 @@ pushed old other now x y is same at = is ∙ λ d. same d ++ at d ∷ []
 
 pub returns : goal.returns
 returns c =
-    let one = c.in-ok-gather.ensures in
-    let two = c.in-ok-gather-2.ensures in
-    let diagonals = chosen _ _ _ _ c.push.ensures.items (ap is_ok c.in-ok-push.was) in
-    let starts = chosen _ _ _ _ c.push-2.ensures.items (ap is_ok c.in-ok-push-2.was) in
+    let one = c.in_ok-gather.ensures in
+    let two = c.in_ok-gather-2.ensures in
+    let diagonals = chosen _ _ _ _ c.push.ensures.items (ap is_ok c.in_ok-push.was) in
+    let starts = chosen _ _ _ _ c.push-2.ensures.items (ap is_ok c.in_ok-push-2.was) in
     record {
       holds = λ f marks so_far.
           added f (length c.args.marks.now) c.args.k c.requires.inside c.args.marks.now marks

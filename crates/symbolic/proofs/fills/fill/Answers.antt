@@ -14,14 +14,14 @@ pub loop-k-init : goal.loop-k-init
 loop-k-init c =
     let f = filled_from c.args.table.now c.args.n in
     let e : c.args.n - 0 ≡ c.args.n = omega arith in
-    let long : vec_len c.in-ok-marks.marks ≡ c.args.n = search rules in
-    (c.in-ok-filled.ensures f c.args.n, long, ap (each_from (limit_verdict f c.args.n) 0) e)
+    let long : vec_len c.in_ok-marks.marks ≡ c.args.n = search rules in
+    (c.in_ok-filled.ensures f c.args.n, long, ap (each_from (limit_verdict f c.args.n) 0) e)
 
-pub take-column-requires : goal.take-column-requires
-take-column-requires c =
+pub take_column-requires : goal.take_column-requires
+take_column-requires c =
     let n = c.args.n in
-    let m = length c.deref-mut.result.now in
-    let long : n ≡ m = sym (c.deref-mut.ensures.len ∙ c.loop-k.invariant.1) in
+    let m = length c.deref_mut.result.now in
+    let long : n ≡ m = sym (c.deref_mut.ensures.len ∙ c.loop-k.invariant.1) in
     record {
       few = omega (arith, long, c.requires.few);
       whole = subst (λ (x : ℕ). length c.args.table.now ≡ x * x) long c.requires.whole;
@@ -35,21 +35,21 @@ stops table n m k refusal P same more left told =
     let here : Tries (limit_verdict (filled_from table n) n k) P (Err refusal) = subst (λ (x : ℕ). Tries (limit_verdict (filled_from table x) x k) P (Err refusal)) same told in
     each_stops (limit_verdict (filled_from table n) n) k n more (limit_checked (filled_from table n) n) left P (Holds (filled_from table n) n n) refusal here
 
-pub returns-in-err-take-column : goal.returns-in-err-take-column
-returns-in-err-take-column c =
+pub returns-in_err-take_column : goal.returns-in_err-take_column
+returns-in_err-take_column c =
     let n = c.args.n in
-    let p = err_from_is_err_and c.from-residual-in-err-take-column.result c.from-residual-in-err-take-column.ensures.1 in
+    let p = err_from_is_err_and c.from_residual-in_err-take_column.result c.from_residual-in_err-take_column.ensures.1 in
     let f = filled_from c.args.table.now n in
     subst (λ (r : Result Filled Refusal). Tries (limit_checked f n) (Holds f n n) r) (sym (p.1 ∙ ap Err p.2))
-    (stops c.args.table.now n _ c.loop-k.k _ _ (c.deref-mut.ensures.len ∙ c.loop-k.invariant.1) c.loop-k-test.true c.loop-k.invariant.2 c.in-err-take-column.ensures)
+    (stops c.args.table.now n _ c.loop-k.k _ _ (c.deref_mut.ensures.len ∙ c.loop-k.invariant.1) c.loop-k-test.true c.loop-k.invariant.2 c.in_err-take_column.ensures)
 
 pub loop-k-preserved : goal.loop-k-preserved
 loop-k-preserved c =
     let n = c.args.n in
     let table = c.args.table.now in
-    let told = tries_passed _ _ _ c.in-ok-take-column.ensures in
-    let long = c.deref-mut.ensures.len ∙ c.loop-k.invariant.1 in (
-      subst (λ (x : ℕ). Holds (filled_from table x) x (c.loop-k.k + 1) c.take-column.new.filled) long told.1,
+    let told = tries_passed _ _ _ c.in_ok-take_column.ensures in
+    let long = c.deref_mut.ensures.len ∙ c.loop-k.invariant.1 in (
+      subst (λ (x : ℕ). Holds (filled_from table x) x (c.loop-k.k + 1) c.take_column.new.filled) long told.1,
       c.loop-k.invariant.1,
       each_goes (limit_verdict (filled_from table n) n) c.loop-k.k n c.loop-k-test.true _ c.loop-k.invariant.2 (subst (λ (x : ℕ). limit_verdict (filled_from table x) x c.loop-k.k ≡ passed) long told.0),
     )

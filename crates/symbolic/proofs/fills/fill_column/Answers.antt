@@ -7,9 +7,9 @@ use Rattle.symbolic.proofs.fills.fill_column.Goals.{then-marks-j, else-marks-j}
 
 pub loop-j-init : goal.loop-j-init
 loop-j-init c =
-    let e = c.copy-column.auto.marks in
-    subst (λ (n : ℕ). Turn c.args.table.now c.args.k 0 n c.copy-column.new.marks) (sym e)
-    (e, taken_none c.args.table.now (length c.args.marks.now) c.args.k c.requires.inside c.copy-column.new.marks c.copy-column.ensures)
+    let e = c.copy_column.auto.marks in
+    subst (λ (n : ℕ). Turn c.args.table.now c.args.k 0 n c.copy_column.new.marks) (sym e)
+    (e, taken_none c.args.table.now (length c.args.marks.now) c.args.k c.requires.inside c.copy_column.new.marks c.copy_column.ensures)
 
 pub column-requires : goal.column-requires
 column-requires c =
@@ -26,13 +26,13 @@ spread-requires c =
     let n = length c.args.marks.now in
     let f = filled_from c.args.table.now n in
     λ t h.
-    omega (arith, rows_inside f n c.loop-j.j c.column.result.now (c.column.ensures ∙ column_is f n c.args.k _ _ c.requires.holds.starts_are c.requires.holds.rows_are c.loop-j.j (omega arith)) t h, c.copy-column.auto.marks, c.loop-j.auto.marks)
+    omega (arith, rows_inside f n c.loop-j.j c.column.result.now (c.column.ensures ∙ column_is f n c.args.k _ _ c.requires.holds.starts_are c.requires.holds.rows_are c.loop-j.j (omega arith)) t h, c.copy_column.auto.marks, c.loop-j.auto.marks)
 
 pub loop-j-preserved : goal.loop-j-preserved
 loop-j-preserved c =
     let n = length c.args.marks.now in
     let f = filled_from c.args.table.now n in
-    let e = c.copy-column.auto.marks in
+    let e = c.copy_column.auto.marks in
     let inv : Turn c.args.table.now c.args.k c.loop-j.j n c.loop-j.marks = subst (λ (m : ℕ). Turn c.args.table.now c.args.k c.loop-j.j m c.loop-j.marks) e c.loop-j.invariant in
     let long : length c.if-marks-j.marks ≡ n = c.if-marks-j.auto.marks ∙ inv.0 in
     subst (λ (m : ℕ). Turn c.args.table.now c.args.k (c.loop-j.j + 1) m c.if-marks-j.marks) (sym e)
@@ -56,5 +56,5 @@ returns c =
     let at : c.loop-j.j ≡ c.args.k = omega arith in
     let inv : Turn c.args.table.now c.args.k c.args.k n c.loop-j.marks =
     subst (λ (j : ℕ). Turn c.args.table.now c.args.k j n c.loop-j.marks) at
-    (subst (λ (m : ℕ). Turn c.args.table.now c.args.k c.loop-j.j m c.loop-j.marks) c.copy-column.auto.marks c.loop-j.invariant) in
+    (subst (λ (m : ℕ). Turn c.args.table.now c.args.k c.loop-j.j m c.loop-j.marks) c.copy_column.auto.marks c.loop-j.invariant) in
     taken_all c.args.table.now n c.args.k c.requires.inside c.loop-j.marks inv.0 inv.1

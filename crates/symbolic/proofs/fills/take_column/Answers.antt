@@ -16,16 +16,16 @@ added n m k marks old new same = subst (λ (x : ℕ). (f : Places) → marks ≡
 long : (f : Places) (n k : ℕ) (x : Filled) → Holds f n k x → x.rows.len ≡ start f n k
 long f n k x h = x.rows.ok.0 ∙ ap length h.rows_are ∙ length-map (stored f n k) row_of
 
-pub returns-then-len-gt-MAX-FILLED : goal.returns-then-len-gt-MAX-FILLED
-returns-then-len-gt-MAX-FILLED c =
+pub returns-then-len-gt-MAX_FILLED : goal.returns-then-len-gt-MAX_FILLED
+returns-then-len-gt-MAX_FILLED c =
     let n = length c.args.marks.now in
     let f = filled_from c.args.table.now n in
-    let h = added n _ c.args.k c.fill-column.new.marks c.args.filled.now c.add-column.new.filled c.fill-column.auto.marks c.in-ok-add-column.ensures.holds f c.fill-column.ensures c.requires.holds in
-    tries_refused _ _ _ (past_limit f n c.args.k (omega (arith, long f n (c.args.k + 1) c.add-column.new.filled h, c.if-len-gt-MAX-FILLED.true, c.len.ensures)))
+    let h = added n _ c.args.k c.fill_column.new.marks c.args.filled.now c.add_column.new.filled c.fill_column.auto.marks c.in_ok-add_column.ensures.holds f c.fill_column.ensures c.requires.holds in
+    tries_refused _ _ _ (past_limit f n c.args.k (omega (arith, long f n (c.args.k + 1) c.add_column.new.filled h, c.if-len-gt-MAX_FILLED.true, c.len.ensures)))
 
 pub returns : goal.returns
 returns c =
     let n = length c.args.marks.now in
     let f = filled_from c.args.table.now n in
-    let h = added n _ c.args.k c.fill-column.new.marks c.args.filled.now c.add-column.new.filled c.fill-column.auto.marks c.in-ok-add-column.ensures.holds f c.fill-column.ensures c.requires.holds in
-    tries_ok _ _ _ (within_limit f n c.args.k (omega (arith, long f n (c.args.k + 1) c.add-column.new.filled h, c.if-len-gt-MAX-FILLED.false, c.len.ensures))) h
+    let h = added n _ c.args.k c.fill_column.new.marks c.args.filled.now c.add_column.new.filled c.fill_column.auto.marks c.in_ok-add_column.ensures.holds f c.fill_column.ensures c.requires.holds in
+    tries_ok _ _ _ (within_limit f n c.args.k (omega (arith, long f n (c.args.k + 1) c.add_column.new.filled h, c.if-len-gt-MAX_FILLED.false, c.len.ensures))) h

@@ -18,8 +18,8 @@ awaited-requires c =
       inside = awaited_ends f n c.args.filled.now c.requires c.loop-k.k inside;
     }
 
-pub level-after-level-requires : goal.level-after-level-requires
-level-after-level-requires c = ?
+pub level_after-level-requires : goal.level_after-level-requires
+level_after-level-requires c = ?
 
 pub loop-k-preserved : goal.loop-k-preserved
 loop-k-preserved c = ?

@@ -7,11 +7,11 @@ use Rattle.symbolic.specs.Filling.{filled_of}
 use Rattle.symbolic.proofs.FilledFacts.{column_begins, column_ends, diagonals_long, diagonal_is}
 use Rattle.symbolic.proofs.places.check_diagonals.Goals as goal
 
-pub has-diagonal-requires : goal.has-diagonal-requires
-has-diagonal-requires c = ?
+pub has_diagonal-requires : goal.has_diagonal-requires
+has_diagonal-requires c = ?
 
-pub returns-then-not-has-diagonal : goal.returns-then-not-has-diagonal
-returns-then-not-has-diagonal c = ?
+pub returns-then-not-has_diagonal : goal.returns-then-not-has_diagonal
+returns-then-not-has_diagonal c = ?
 
 pub loop-k-preserved : goal.loop-k-preserved
 loop-k-preserved c = ?

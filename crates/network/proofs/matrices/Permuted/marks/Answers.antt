@@ -5,7 +5,7 @@ use Rattle.std.specs.declared.alloc.Global.{Global}
 use Rattle.network.specs.OrderSheet.{orders}
 use Rattle.network.proofs.Marking.{Marked, marked_none, step, always, end}
 use Rattle.network.proofs.matrices.Permuted.marks.Goals as goal
-use Rattle.network.proofs.matrices.Permuted.marks.Goals.{in-Some, in-default}
+use Rattle.network.proofs.matrices.Permuted.marks.Goals.{in-Some, in_default}
 
 -- the marks after one was written through the lent slice
 written : (v v' : Vec Bool Global) (ws xs : List Bool) (i : ℕ) → v' ≡ with_items v ws → xs ≡ vec_items v → ws ≡ set xs i true → vec_items v' ≡ set (vec_items v) i true
@@ -15,7 +15,7 @@ written v v' ws xs i is lent set' =
 
 pub loop-t-init : goal.loop-t-init
 loop-t-init c =
-    subst (Marked c.size-n.result (orders c.args.self.now.order) c.args.self.now.network.entries.items 0) (sym (c.in-ok-marks.ensures.items-if-clones-equal (λ y e. e)))
+    subst (Marked c.size-n.result (orders c.args.self.now.order) c.args.self.now.network.entries.items 0) (sym (c.in_ok-marks.ensures.items_if_clones_equal (λ y e. e)))
     (marked_none c.size-n.result _ _)
 
 pub mark-requires : goal.mark-requires
@@ -32,9 +32,9 @@ loop-t-preserved c =
       | in-Some w ↦
           let marked = (step m _ c.loop-t.t _ w.in-Some.place c.size-n.ensures more w.in-Some.ensures c.loop-t.invariant).1 in
           subst (Marked c.size-n.result (orders m.order) m.network.entries.items (c.loop-t.t + 1))
-          (sym (written c.loop-t.marks c.match-place.marks w.mark.new.marks w.deref-mut.result.now (w.in-Some.place.row * c.size-n.result + w.in-Some.place.column) w.marks-is w.deref-mut.ensures.value w.mark.ensures))
+          (sym (written c.loop-t.marks c.match-place.marks w.mark.new.marks w.deref_mut.result.now (w.in-Some.place.row * c.size-n.result + w.in-Some.place.column) w.marks-is w.deref_mut.ensures.value w.mark.ensures))
           marked
-      | in-default w ↦ absurd (always m c.loop-t.t more w.in-default.ensures)
+      | in_default w ↦ absurd (always m c.loop-t.t more w.in_default.ensures)
     ]
 
 pub returns : goal.returns

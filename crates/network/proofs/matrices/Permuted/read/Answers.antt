@@ -30,12 +30,12 @@ correspond : (r : Result Permuted Refusal) → IfOk r (λ m. OneToOne (pattern m
 correspond (Ok m) = one_to_one m
 correspond (Err refusal) = tt
 
-pub returns-in-err-n : goal.returns-in-err-n
-returns-in-err-n c =
-    let a : Reads c.args.network.now c.args.order.now c.from-residual.result = search rules in
-    record { answers = a; judges = judged c.args.network.now c.args.order.now _ a; one_to_one = correspond c.from-residual.result }
+pub returns-in_err-n : goal.returns-in_err-n
+returns-in_err-n c =
+    let a : Reads c.args.network.now c.args.order.now c.from_residual.result = search rules in
+    record { answers = a; judges = judged c.args.network.now c.args.order.now _ a; one_to_one = correspond c.from_residual.result }
 
 pub returns : goal.returns
 returns c =
-    let a : Reads c.args.network.now c.args.order.now c.copy-sheets.result = search rules in
-    record { answers = a; judges = judged c.args.network.now c.args.order.now _ a; one_to_one = correspond c.copy-sheets.result }
+    let a : Reads c.args.network.now c.args.order.now c.copy_sheets.result = search rules in
+    record { answers = a; judges = judged c.args.network.now c.args.order.now _ a; one_to_one = correspond c.copy_sheets.result }

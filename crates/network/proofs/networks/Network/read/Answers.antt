@@ -16,12 +16,12 @@ Reads bytes r = Answers (network_checked bytes) (λ m. pattern m ≡ network_of 
 judged : (bytes : List ℕ) (r : Result Network Refusal) → Reads bytes r → Judges (NetworkWrong bytes) r
 judged bytes r a = judges (NetworkWrong bytes) (network_checked bytes) (λ m. pattern m ≡ network_of bytes) r (network_law bytes) a
 
-pub returns-in-err-n : goal.returns-in-err-n
-returns-in-err-n c =
-    let a : Reads c.args.sheet.now c.from-residual.result = search rules in
+pub returns-in_err-n : goal.returns-in_err-n
+returns-in_err-n c =
+    let a : Reads c.args.sheet.now c.from_residual.result = search rules in
     record { answers = a; judges = judged c.args.sheet.now _ a }
 
 pub returns : goal.returns
 returns c =
-    let a : Reads c.args.sheet.now c.copy-network.result = search rules in
+    let a : Reads c.args.sheet.now c.copy_network.result = search rules in
     record { answers = a; judges = judged c.args.sheet.now _ a }

@@ -16,12 +16,12 @@ Reads n bytes r = Answers (order_checked n bytes) (λ o. orders o ≡ order_of n
 judged : (n : ℕ) (bytes : List ℕ) (r : Result Order Refusal) → Reads n bytes r → Judges (OrderWrong n bytes) r
 judged n bytes r a = judges (OrderWrong n bytes) (order_checked n bytes) (λ o. orders o ≡ order_of n bytes) r (order_law n bytes) a
 
-pub returns-in-err-check-order : goal.returns-in-err-check-order
-returns-in-err-check-order c =
-    let a : Reads c.args.network.now.n c.args.sheet.now c.from-residual.result = search rules in
+pub returns-in_err-check_order : goal.returns-in_err-check_order
+returns-in_err-check_order c =
+    let a : Reads c.args.network.now.n c.args.sheet.now c.from_residual.result = search rules in
     record { answers = a; judges = judged c.args.network.now.n c.args.sheet.now _ a }
 
 pub returns : goal.returns
 returns c =
-    let a : Reads c.args.network.now.n c.args.sheet.now c.copy-order.result = search rules in
+    let a : Reads c.args.network.now.n c.args.sheet.now c.copy_order.result = search rules in
     record { answers = a; judges = judged c.args.network.now.n c.args.sheet.now _ a }

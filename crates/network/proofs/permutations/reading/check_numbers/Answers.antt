@@ -9,11 +9,11 @@ loop-i-init c =
     let xs = words c.args.sheet.now c.args.at c.args.n in
     (c.new-reader.ensures.bytes, omega (arith, c.new-reader.ensures.at), marks_none xs, start xs c.args.n c.args.base)
 
-pub returns-then-not-is-new : goal.returns-then-not-is-new
-returns-then-not-is-new c =
+pub returns-then-not-is_new : goal.returns-then-not-is_new
+returns-then-not-is_new c =
     let more : c.loop-i.i < c.args.n = omega arith in
     let is = number_is c.args.sheet.now _ c.args.at c.args.n _ _ c.loop-i.invariant.0 c.loop-i.invariant.1 more (omega arith) _ _ c.in-Some.is c.next.ensures.value in
-    sym (stops _ _ _ _ _ _ (omega arith) more is c.loop-i.invariant.2 c.loop-i.invariant.3 c.if-not-is-new.ensures)
+    sym (stops _ _ _ _ _ _ (omega arith) more is c.loop-i.invariant.2 c.loop-i.invariant.3 c.if-not-is_new.ensures)
 
 pub loop-i-preserved : goal.loop-i-preserved
 loop-i-preserved c =
@@ -23,5 +23,5 @@ loop-i-preserved c =
       c.next.ensures.same ∙ c.loop-i.invariant.0,
       next_stands c.args.sheet.now _ c.args.at c.args.n _ _ c.loop-i.invariant.0 c.loop-i.invariant.1 more (omega arith) _ c.next.ensures.position,
       marks_more c.loop-i.seen xs c.loop-i.i c.in-Some.number (omega (arith, length_words c.args.sheet.now c.args.at c.args.n)) is c.loop-i.invariant.2,
-      goes _ _ _ _ _ _ (omega arith) more is c.loop-i.invariant.2 c.loop-i.invariant.3 c.if-not-is-new.ensures,
+      goes _ _ _ _ _ _ (omega arith) more is c.loop-i.invariant.2 c.loop-i.invariant.3 c.if-not-is_new.ensures,
     )

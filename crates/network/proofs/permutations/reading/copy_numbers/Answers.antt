@@ -7,7 +7,7 @@ pub loop-i-preserved : goal.loop-i-preserved
 loop-i-preserved c =
     let more : c.loop-i.i < c.args.n = omega arith in
     let is = number_is c.args.sheet.now _ c.args.at c.args.n _ _ c.loop-i.invariant.0 c.loop-i.invariant.1 more (omega arith) _ _ c.in-Some.is c.next.ensures.value in
-    let pushed = chosen _ _ _ _ c.push.ensures.items (ap is_ok c.in-ok-push.was) in (
+    let pushed = chosen _ _ _ _ c.push.ensures.items (ap is_ok c.in_ok-push.was) in (
       c.next.ensures.same ∙ c.loop-i.invariant.0,
       next_stands c.args.sheet.now _ c.args.at c.args.n _ _ c.loop-i.invariant.0 c.loop-i.invariant.1 more (omega arith) _ c.next.ensures.position,
       one_more c.args.sheet.now c.args.at c.args.n c.loop-i.i _ _ _ more is c.loop-i.invariant.2 pushed,

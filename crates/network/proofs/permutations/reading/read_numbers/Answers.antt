@@ -11,13 +11,14 @@ copied xs ys is few once = subst (λ (zs : List ℕ). (length zs ≤ 512) × Dis
 
 pub invert-requires : goal.invert-requires
 invert-requires c =
-    copied _ (words c.args.sheet.now c.args.at c.args.n) (c.deref.ensures.value ∙ c.in-ok-numbers.ensures)
+    copied _ (words c.args.sheet.now c.args.at c.args.n) (c.deref.ensures.value ∙ c.in_ok-numbers.ensures)
     (omega (arith, length_words c.args.sheet.now c.args.at c.args.n)) c.requires.1.1
 
-pub invariant-of-result : goal.invariant-of-result
-invariant-of-result c =
-    let two = copied c.in-ok-numbers.numbers.items (words c.args.sheet.now c.args.at c.args.n) c.in-ok-numbers.ensures
+pub invariant_of-result : goal.invariant_of-result
+invariant_of-result c =
+    let two = copied c.in_ok-numbers.numbers.items (words c.args.sheet.now c.args.at c.args.n) c.in_ok-numbers.ensures
     (omega (arith, length_words c.args.sheet.now c.args.at c.args.n)) c.requires.1.1 in
-    kept c.in-ok-numbers.numbers.items c.in-ok-positions.positions.items _ _
-    c.in-ok-numbers.numbers.ok.0 c.in-ok-positions.positions.ok.0 two.0 two.1
-    (subst (Inverts c.in-ok-positions.positions.items) c.deref.ensures.value c.in-ok-positions.ensures)
+    let k = kept c.in_ok-numbers.numbers.items c.in_ok-positions.positions.items _ _
+    c.in_ok-numbers.numbers.ok.0 c.in_ok-positions.positions.ok.0 two.0 two.1
+    (subst (Inverts c.in_ok-positions.positions.items) c.deref.ensures.value c.in_ok-positions.ensures) in
+    record { small = k.small; long = k.long; below = k.below; stands = k.stands; back = k.back; told = k.told }
