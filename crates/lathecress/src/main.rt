@@ -8,7 +8,8 @@ mod worked;
 
 use failures::Failure;
 use network::{Permutation, Permuted};
-use std::{env, fs};
+use std::process::ExitCode;
+use std::{env, fs, io};
 
 const HELP: &str = "\
 lathecress: a proved sparse solver for cable networks
@@ -105,13 +106,15 @@ fn run(rt: &HostRuntime) -> Result<(), Failure> {
     }
 }
 
-fn main(rt: HostRuntime) -> Result<(), Failure> {
-    let done = run(&rt);
-    if let Err(failure) = &done {
-        match failure {
-            Failure::TurnedDown(_) => println!(rt; "{failure}")?,
-            _ => eprintln!(rt; "{failure}")?,
+fn main(rt: HostRuntime) -> io::Result<ExitCode> {
+    match run(&rt) {
+        Ok(()) => Ok(ExitCode::SUCCESS),
+        Err(failure) => {
+            match failure {
+                Failure::TurnedDown(_) => println!(rt; "{failure}")?,
+                _ => eprintln!(rt; "{failure}")?,
+            }
+            Ok(ExitCode::FAILURE)
         }
     }
-    done
 }

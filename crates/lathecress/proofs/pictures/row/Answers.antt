@@ -16,7 +16,7 @@ one_more before after marks i c written h so_far pushed is ascii =
 
 pub loop-mark-preserved : goal.loop-mark-preserved
 loop-mark-preserved c =
-    let told = c.in-ok-push.ensures in
+    let told = c.in_ok-push.ensures in
     one_more _ _ c.args.marks.now c.loop-mark.mark-index c.sign.result _ c.loop-mark-test.true c.loop-mark.invariant told.bytes c.sign.ensures told.ascii
 
 pub returns : goal.returns
