@@ -1,5 +1,5 @@
 -- Numbers that are below n and not met before. Assumes nothing.
-use Rattle.std.proofs.Common.{◌≡◌, ℕ, zero, suc, ◌+◌, ◌<◌, ◌≤◌, Bool, true, false, not, ◌&&◌, ◌||◌, eqb, ltb, ◌⊎◌, List, [], ◌∷◌, ◌++◌, length, get_or, take, set, replicate, vec_items, vec_len, sym, refl, ap, ◌∙◌, subst, ⊎_elim, add-one, arith, below_more}
+use Rattle.std.proofs.Common.{◌≡◌, ℕ, zero, suc, ◌+◌, ◌<◌, ◌≤◌, Bool, true, false, not, ◌&&◌, ◌||◌, eqb, ltb, List, [], ◌∷◌, ◌++◌, length, get_or, take, set, replicate, vec_items, vec_len, sym, refl, ap, ◌∙◌, subst, ⊎_elim, add-one, arith, below_more}
 use Rattle.std.proofs.lemmas.List.{take_more, take_all, length-take, get_or-take, length-set, length-replicate, get_or-replicate, get_or-set_same, get_or-set_other}
 use Rattle.std.proofs.lemmas.Bool.{cases_eq, cases_Bool, eq-eqb, ne_eqb, or_left, or_right, and_left, and_parts, not-true, both_ways, ltb-true, eqb-true, cond-true, cond-false}
 use Rattle.network.specs.declared.permutations.Permutation.{Permutation}
