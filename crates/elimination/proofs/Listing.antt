@@ -8,7 +8,7 @@ use Rattle.network.specs.declared.entries.Entry.{Entry}
 use Rattle.network.specs.Entries.{after, origin}
 use Rattle.elimination.specs.Fill.{Places}
 use Rattle.elimination.specs.Laws.{Listed}
-use Rattle.elimination.specs.Plans.{rows_of, in_column, stored, start, place_of}
+use Rattle.elimination.specs.Plans.{rows_of, in_column, stored, start, stored_place}
 use Rattle.elimination.proofs.Ordered.{Ordered, ordered_append, ordered_among, ordered_map, ordered_getD, kept_rises}
 use Rattle.elimination.proofs.Storing.{kept_more, kept_split, kept_within, stored_more, stored_splits}
 
@@ -81,14 +81,14 @@ module _ (f : Places) (n : ℕ) where
             ∙ append_assoc (stored f n k ++ here) (in_column k i ∷ behind) more.0,
       )
 
-  stands : (i k : ℕ) → i < n → k < n → f i k ≡ true → (place_of f n i k < length (stored f n n)) × (get_or (stored f n n) (place_of f n i k) origin ≡ in_column k i)
+  stands : (i k : ℕ) → i < n → k < n → f i k ≡ true → (stored_place f n i k < length (stored f n n)) × (get_or (stored f n n) (stored_place f n i k) origin ≡ in_column k i)
   stands i k below inside on =
       let front = filter (λ r. f r k) (range_with_len 0 i) in
       let before = stored f n k ++ map (in_column k) front in
       let whole = stored_part i k below inside on in
-      let long : length before ≡ place_of f n i k = length-append (stored f n k) (map (in_column k) front) ∙ ap (λ (x : ℕ). start f n k + x) (length-map front (in_column k)) in (
+      let long : length before ≡ stored_place f n i k = length-append (stored f n k) (map (in_column k) front) ∙ ap (λ (x : ℕ). start f n k + x) (length-map front (in_column k)) in (
         omega (arith, ap length whole.1 ∙ length-append before (in_column k i ∷ whole.0), long),
-        ap (λ (xs : List Entry). get_or xs (place_of f n i k) origin) whole.1 ∙ get_or_at before (in_column k i) whole.0 origin (place_of f n i k) long,
+        ap (λ (xs : List Entry). get_or xs (stored_place f n i k) origin) whole.1 ∙ get_or_at before (in_column k i) whole.0 origin (stored_place f n i k) long,
       )
 
   pub listed : Listed f n (stored f n n)

@@ -8,7 +8,7 @@ use Rattle.std.proofs.lemmas.Bool.{cases_eq, cases_lt, cases_Bool, eq-eqb, ne_eq
 use Rattle.network.specs.declared.entries.Entry.{Entry}
 use Rattle.network.specs.Permutations.{met}
 use Rattle.elimination.specs.Fill.{Places}
-use Rattle.elimination.specs.Plans.{rows_of, awaited_by, in_column, stored, start, place_of}
+use Rattle.elimination.specs.Plans.{rows_of, awaited_by, in_column, stored, start, stored_place}
 use Rattle.elimination.specs.Storage.{row_of, column_of}
 
 -- ---- counting
@@ -215,28 +215,28 @@ module _ (f : Places) (n : ℕ) where
       )
 
   -- what stands between a start and the diagonal is awaited
-  pub awaited_stands : (m k : ℕ) → k < m → k ≤ n → take (place_of f n k k - start f n k) (drop (start f n k) (map row_of (stored f n m))) ≡ awaited_by f k
+  pub awaited_stands : (m k : ℕ) → k < m → k ≤ n → take (stored_place f n k k - start f n k) (drop (start f n k) (map row_of (stored f n m))) ≡ awaited_by f k
   awaited_stands m k below inside =
       let whole = parts m k below inside in
-      let long : length (awaited_by f k) ≡ place_of f n k k - start f n k = omega arith in
-      ap (λ (xs : List ℕ). take (place_of f n k k - start f n k) (drop (start f n k) xs)) whole.1
-      ∙ ap (take (place_of f n k k - start f n k)) (drop_at (map row_of (stored f n k)) _ (start f n k) (length-map (stored f n k) row_of))
+      let long : length (awaited_by f k) ≡ stored_place f n k k - start f n k = omega arith in
+      ap (λ (xs : List ℕ). take (stored_place f n k k - start f n k) (drop (start f n k) xs)) whole.1
+      ∙ ap (take (stored_place f n k k - start f n k)) (drop_at (map row_of (stored f n k)) _ (start f n k) (length-map (stored f n k) row_of))
       ∙ take_at (awaited_by f k) (filter (λ i. f i k) (range_with_len k (n - k)) ++ whole.0) _ long
 
   -- ---- the diagonal
-  others_long : (k : ℕ) → k ≤ n → start f n (k + 1) ≡ place_of f n k k + length (filter (λ i. f i k) (range_with_len k (n - k)))
+  others_long : (k : ℕ) → k ≤ n → start f n (k + 1) ≡ stored_place f n k k + length (filter (λ i. f i k) (range_with_len k (n - k)))
   others_long k inside =
       let two = ap length (kept_split (λ i. f i k) k n inside) ∙ length-append (awaited_by f k) (filter (λ i. f i k) (range_with_len k (n - k))) in
       omega (arith, start_more k, two)
 
-  others_first : (m k : ℕ) → k < m → k ≤ n → (rest : List ℕ) × (get_or (map row_of (stored f n m)) (place_of f n k k) 0 ≡ get_or (filter (λ i. f i k) (range_with_len k (n - k)) ++ rest) 0 0)
+  others_first : (m k : ℕ) → k < m → k ≤ n → (rest : List ℕ) × (get_or (map row_of (stored f n m)) (stored_place f n k k) 0 ≡ get_or (filter (λ i. f i k) (range_with_len k (n - k)) ++ rest) 0 0)
   others_first m k below inside =
       let whole = parts m k below inside in
       let tail = filter (λ i. f i k) (range_with_len k (n - k)) ++ whole.0 in
       let at : start f n k + length (awaited_by f k) ≡ length (map row_of (stored f n k)) + length (awaited_by f k) = ap (λ (x : ℕ). x + length (awaited_by f k)) (sym (length-map (stored f n k) row_of)) in
       let at2 : length (awaited_by f k) ≡ length (awaited_by f k) + 0 = omega arith in (
         whole.0,
-        ap (λ (xs : List ℕ). get_or xs (place_of f n k k) 0) whole.1
+        ap (λ (xs : List ℕ). get_or xs (stored_place f n k k) 0) whole.1
             ∙ ap (λ (x : ℕ). get_or (map row_of (stored f n k) ++ (awaited_by f k ++ tail)) x 0) at
             ∙ get_or-append-add (map row_of (stored f n k)) (awaited_by f k ++ tail) (length (awaited_by f k)) 0
             ∙ ap (λ (x : ℕ). get_or (awaited_by f k ++ tail) x 0) at2
@@ -244,13 +244,13 @@ module _ (f : Places) (n : ℕ) where
       )
 
   -- the column goes on at the diagonal's place with the diagonal itself, if it is filled
-  pub diagonal_stands : (m k : ℕ) → k < m → k < n → (ltb (place_of f n k k) (start f n (k + 1)) && eqb (get_or (map row_of (stored f n m)) (place_of f n k k) 0) k) ≡ f k k
+  pub diagonal_stands : (m k : ℕ) → k < m → k < n → (ltb (stored_place f n k k) (start f n (k + 1)) && eqb (get_or (map row_of (stored f n m)) (stored_place f n k k) 0) k) ≡ f k k
   diagonal_stands m k below inside =
       let first = others_first m k below (omega arith) in
       let others = filter (λ i. f i k) (range_with_len k (n - k)) in
       let e : n - k ≡ suc (n - (k + 1)) = omega arith in
       let split : others ≡ cond (f k k) (k ∷ filter (λ i. f i k) (range_with_len (k + 1) (n - (k + 1)))) (filter (λ i. f i k) (range_with_len (k + 1) (n - (k + 1)))) = ap (λ (x : ℕ). filter (λ i. f i k) (range_with_len k x)) e in
-      let shift : ltb (place_of f n k k) (start f n (k + 1)) ≡ ltb 0 (length others) = ltb_shift (place_of f n k k) (start f n (k + 1)) (length others) (others_long k (omega arith)) in
+      let shift : ltb (stored_place f n k k) (start f n (k + 1)) ≡ ltb 0 (length others) = ltb_shift (stored_place f n k k) (start f n (k + 1)) (length others) (others_long k (omega arith)) in
       (λ d. shift d && eqb (first.1 d) k)
       ∙ ap (λ (xs : List ℕ). ltb 0 (length xs) && eqb (get_or (xs ++ first.0) 0 0) k) split
       ∙ here (f k k) (filter (λ i. f i k) (range_with_len (k + 1) (n - (k + 1)))) first.0 (kept_within (λ i. f i k) (n - (k + 1)) (k + 1))

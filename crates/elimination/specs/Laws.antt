@@ -7,7 +7,7 @@ use Rattle.network.specs.OrderSheet.{Orders}
 use Rattle.network.specs.Permutations.{met, position}
 use Rattle.network.specs.Permuted.{permuted}
 use Rattle.elimination.specs.Fill.{Places, Filled}
-use Rattle.elimination.specs.Plans.{in_column, stored, place_of, awaited_by, filling, levels_of, sequence_of, wide, cluster_levels_of}
+use Rattle.elimination.specs.Plans.{in_column, stored, stored_place, awaited_by, filling, levels_of, sequence_of, wide, cluster_levels_of}
 
 -- S has every entry of B and, with (i, j) and (j, k) where j is below both i and k, also (i, k)
 pub record Closed (B S : Places) : Type 0 where
@@ -33,7 +33,7 @@ pub record AwaitedLaw (f : Places) (k : ℕ) (xs : List ℕ) : Type 0 where
 
 -- the filled places of n columns, and no others, each once, by column, then by row
 pub record Listed (f : Places) (n : ℕ) (entries : List Entry) : Type 0 where
-  pub stands : (i k : ℕ) → i < n → k < n → f i k ≡ true → (place_of f n i k < length entries) × (slice_index_or entries (place_of f n i k) origin ≡ in_column k i)
+  pub stands : (i k : ℕ) → i < n → k < n → f i k ≡ true → (stored_place f n i k < length entries) × (slice_index_or entries (stored_place f n i k) origin ≡ in_column k i)
   pub only : (t : ℕ) → t < length entries → ((get_or entries t origin).row < n) × ((get_or entries t origin).column < n) × (f (get_or entries t origin).row (get_or entries t origin).column ≡ true)
   pub rising : (t : ℕ) → t + 1 < length entries → after (slice_index_or entries (t + 1) origin) (slice_index_or entries t origin) ≡ true
 

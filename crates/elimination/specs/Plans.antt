@@ -32,8 +32,8 @@ abbrev pub start : Places → ℕ → ℕ → ℕ
 start f n k = length (stored f n k)
 
 -- the place of (i, k): after the columns below k and the filled rows of column k above i
-abbrev pub place_of : Places → ℕ → ℕ → ℕ → ℕ
-place_of f n i k = start f n k + length (filter (λ r. f r k) (range_with_len 0 i))
+abbrev pub stored_place : Places → ℕ → ℕ → ℕ → ℕ
+stored_place f n i k = start f n k + length (filter (λ r. f r k) (range_with_len 0 i))
 
 -- 0 where nothing is awaited, else 1 plus the largest level that is
 abbrev pub level_past : List ℕ → List ℕ → ℕ
@@ -102,7 +102,7 @@ pub record PlanTold : Type 0 where
   pub cluster_levels : ℕ
 
 abbrev pub entry_place : Pattern → Orders → ℕ → ℕ
-entry_place m o t = place_of (filling m o) m.size (placed_at m o t).row (placed_at m o t).column
+entry_place m o t = stored_place (filling m o) m.size (placed_at m o t).row (placed_at m o t).column
 
 abbrev pub plan_of : Pattern → Orders → ℕ → PlanTold
 plan_of m o t = record {

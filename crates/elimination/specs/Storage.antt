@@ -3,7 +3,7 @@ use Rattle.std.specs.Prelude.{◌≡◌, ℕ, ◌+◌, List, map}
 use Rattle.std.specs.List.{range_with_len}
 use Rattle.network.specs.declared.entries.Entry.{Entry}
 use Rattle.elimination.specs.Fill.{Places}
-use Rattle.elimination.specs.Plans.{stored, start, place_of}
+use Rattle.elimination.specs.Plans.{stored, start, stored_place}
 
 -- the places at which the columns below k begin, and the one at which the last of them ends
 abbrev pub starts_of : Places → ℕ → ℕ → List ℕ
@@ -11,7 +11,7 @@ starts_of f n k = map (start f n) (range_with_len 0 (k + 1))
 
 -- the places of the diagonals of the columns below k, filled or not
 abbrev pub diagonals_of : Places → ℕ → ℕ → List ℕ
-diagonals_of f n k = map (λ j. place_of f n j j) (range_with_len 0 k)
+diagonals_of f n k = map (λ j. stored_place f n j j) (range_with_len 0 k)
 
 abbrev pub row_of : Entry → ℕ
 row_of x = x.row

@@ -1,10 +1,10 @@
 -- A filled pattern with one column more. Assumes nothing.
-use Rattle.std.proofs.Common.{◌≡◌, ℕ, ◌+◌, ◌-◌, ◌<◌, ◌≤◌, Bool, false, List, [], ◌∷◌, ◌++◌, map, length, get_or, filter, sym, refl, ap, ◌∙◌, subst, arith}
+use Rattle.std.proofs.Common.{◌≡◌, ℕ, ◌+◌, ◌-◌, ◌<◌, Bool, false, List, [], ◌∷◌, ◌++◌, map, length, get_or, filter, sym, ap, ◌∙◌, arith}
 use Rattle.std.specs.List.{range_with_len}
 use Rattle.std.proofs.lemmas.List.FromFn.{get_or-map-range_with_len, map-range_with_len_more}
 use Rattle.std.proofs.lemmas.List.{append_assoc, map-append, length-append, length-map}
 use Rattle.elimination.specs.Fill.{Places}
-use Rattle.elimination.specs.Plans.{rows_of, stored, start, place_of}
+use Rattle.elimination.specs.Plans.{rows_of, stored, start, stored_place}
 use Rattle.elimination.specs.Storage.{starts_of, diagonals_of, row_of, column_of, Stored}
 use Rattle.elimination.proofs.Storing.{kept_split, kept_same, rows_more, columns_more}
 use Rattle.symbolic.specs.Tables.{marks_in}
@@ -49,7 +49,7 @@ module _ (f : Places) (n k : ℕ) (inside : k < n) (marks : List Bool) (marks_ar
         ∙ ap (λ (xs : List ℕ). xs ++ map (λ _. k) (rows_of f n k)) so_far.columns_are
         ∙ sym (columns_more f n k)
 
-    diagonal_at : length rows1 ≡ place_of f n k k
+    diagonal_at : length rows1 ≡ stored_place f n k k
     diagonal_at =
         ap length rows1_are ∙ length-append rows (filter marked (range_with_len 0 (k - 0)))
         ∙ λ d. (ap length so_far.rows_are ∙ length-map (stored f n k) row_of) d + length (upper d)
@@ -57,7 +57,7 @@ module _ (f : Places) (n k : ℕ) (inside : k < n) (marks : List Bool) (marks_ar
     diagonals_added : diagonals2 ≡ diagonals_of f n (k + 1)
     diagonals_added =
         diagonals2_are ∙ (λ d. so_far.diagonals_are d ++ diagonal_at d ∷ [])
-        ∙ sym (map-range_with_len_more (λ j. place_of f n j j) 0 k k (omega arith))
+        ∙ sym (map-range_with_len_more (λ j. stored_place f n j j) 0 k k (omega arith))
 
     end_at : length rows3 ≡ start f n (k + 1)
     end_at = ap length rows_added ∙ length-map (stored f n (k + 1)) row_of

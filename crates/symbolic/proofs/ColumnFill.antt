@@ -1,10 +1,10 @@
 -- The marks of column k, as it takes up the columns that it awaits. Assumes nothing.
-use Rattle.std.proofs.Common.{◌≡◌, ℕ, suc, ◌+◌, ◌*◌, ◌<◌, ◌≤◌, Bool, true, false, ◌&&◌, ◌||◌, ltb, List, map, length, get_or, sym, refl, ap, ◌∙◌, subst, inr, add-one, arith}
+use Rattle.std.proofs.Common.{◌≡◌, ℕ, suc, ◌+◌, ◌*◌, ◌<◌, Bool, true, false, ◌&&◌, ◌||◌, ltb, List, map, length, get_or, sym, ap, ◌∙◌, subst, inr, add-one, arith}
 use Rattle.std.specs.List.{range_with_len}
 use Rattle.std.proofs.lemmas.List.FromFn.{get_or-map-range_with_len, fill_by_all}
 use Rattle.std.proofs.lemmas.Bool.{lt-ltb, and_from}
 use Rattle.network.specs.Permutations.{met}
-use Rattle.elimination.specs.Fill.{Places, filled}
+use Rattle.elimination.specs.Fill.{filled}
 use Rattle.elimination.specs.Plans.{rows_of}
 use Rattle.elimination.proofs.Filling.{step_skips, step_takes, settled_to}
 use Rattle.elimination.proofs.Storing.{met_kept}

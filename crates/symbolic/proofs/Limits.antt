@@ -1,12 +1,12 @@
 -- The check that the filled pattern is not too large, column by column. Assumes nothing.
-use Rattle.std.proofs.Common.{◌≡◌, ℕ, ◌+◌, ◌-◌, ◌<◌, ◌≤◌, Bool, true, false, leb, ◌⊎◌, Ok, Err, Result, sym, refl, ap, ◌∙◌, subst, inl, inr, ⊎_elim, arith}
+use Rattle.std.proofs.Common.{◌≡◌, ℕ, ◌+◌, ◌-◌, ◌<◌, ◌≤◌, Bool, ◌⊎◌, Ok, Err, Result, sym, refl, ap, ◌∙◌, subst, inl, inr, ⊎_elim, arith}
 use Rattle.std.proofs.lemmas.Bool.{le-leb, lt-leb}
 use Rattle.refusals.specs.declared.Refusal.{Refusal}
 use Rattle.refusals.specs.declared.Refusal.TheVariants.{OutOfMemory, FillLimit}
-use Rattle.refusals.specs.Checks.{Verdict, passed, unless, bind, each_from}
+use Rattle.refusals.specs.Checks.{Verdict, passed, unless, each_from}
 use Rattle.refusals.proofs.Checking.{each_from_goes, each_from_stops}
 use Rattle.elimination.specs.Fill.{Places}
-use Rattle.elimination.specs.Plans.{start, limit_verdict, limit_checked}
+use Rattle.elimination.specs.Plans.{start, limit_verdict}
 use Rattle.symbolic.specs.Trying.{Tries}
 
 pub within_limit : (f : Places) (n k : ℕ) → start f n (k + 1) ≤ 8192 → limit_verdict f n k ≡ passed

@@ -3,7 +3,7 @@ ghost use Rattle.std.specs.Prelude.{◌≡◌, ◌+◌, ◌<◌, ◌≤◌, map,
 ghost use Rattle.std.specs.List.{range_with_len};
 ghost use Rattle.network.specs.NetworkSheet.{pattern};
 ghost use Rattle.network.specs.OrderSheet.{orders};
-ghost use Rattle.elimination.specs.Plans.{diagonals_checked, entry_place, place_of};
+ghost use Rattle.elimination.specs.Plans.{diagonals_checked, entry_place, stored_place};
 ghost use Rattle.refusals.specs.declared.Refusal.TheVariants.{OutOfMemory};
 ghost use Rattle.symbolic.specs.Filling.{HoldsAll, filled_of};
 
@@ -29,7 +29,7 @@ fn rows_above(column: &[u16], row: u16) -> usize
 fn place_of(matrix: &Permuted, filled: &Filled, entry: Entry) -> usize
     requires holds { HoldsAll matrix.now filled.now }
     requires inside { (entry.row < matrix.now.network.n) × (entry.column < matrix.now.network.n) }
-    ensures { result ≡ place_of (filled_of matrix.now) matrix.now.network.n entry.row entry.column }
+    ensures { result ≡ stored_place (filled_of matrix.now) matrix.now.network.n entry.row entry.column }
 {
     let k = entry.column as usize;
     filled.starts[k] + rows_above(filled.column(k), entry.row)

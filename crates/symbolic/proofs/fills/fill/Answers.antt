@@ -1,4 +1,4 @@
-use Rattle.std.proofs.Common.{◌≡◌, ℕ, ◌+◌, ◌-◌, ◌*◌, ◌<◌, ◌≤◌, Bool, List, length, Err, vec_len, Result, sym, ap, ◌∙◌, subst, arith, rules}
+use Rattle.std.proofs.Common.{◌≡◌, ℕ, ◌+◌, ◌-◌, ◌*◌, ◌<◌, Bool, List, length, Err, vec_len, Result, sym, ap, ◌∙◌, subst, arith, rules}
 use Rattle.std.proofs.lemmas.Result.{err_from_is_err_and}
 use Rattle.elimination.specs.Plans.{limit_verdict, limit_checked}
 use Rattle.refusals.specs.declared.Refusal.{Refusal}
@@ -7,7 +7,7 @@ use Rattle.symbolic.specs.declared.patterns.Filled.{Filled}
 use Rattle.symbolic.specs.Filling.{Holds}
 use Rattle.symbolic.specs.Tables.{filled_from}
 use Rattle.symbolic.specs.Trying.{Tries}
-use Rattle.symbolic.proofs.Limits.{tries_passed, each_goes, each_stops, each_done, tries_ok}
+use Rattle.symbolic.proofs.Limits.{tries_passed, each_goes, each_stops}
 use Rattle.symbolic.proofs.fills.fill.Goals as goal
 
 pub loop-k-init : goal.loop-k-init

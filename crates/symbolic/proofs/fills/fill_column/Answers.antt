@@ -1,4 +1,4 @@
-use Rattle.std.proofs.Common.{◌≡◌, ℕ, ◌+◌, Bool, List, length, sym, refl, ◌∙◌, subst, arith}
+use Rattle.std.proofs.Common.{◌≡◌, ℕ, ◌+◌, Bool, List, length, sym, ◌∙◌, subst, arith}
 use Rattle.symbolic.specs.Tables.{filled_from}
 use Rattle.symbolic.proofs.ColumnFill.{Turn, taken_none, taken_skips, taken_more, taken_all}
 use Rattle.symbolic.proofs.StoredColumns.{starts_long, rising, within, column_is, rows_inside}

@@ -1,4 +1,4 @@
-use Rattle.std.proofs.Common.{◌≡◌, ℕ, Bool, eqb, List, [], ◌∷◌, ◌++◌, get_or, is_ok, vec_items, sym, ap, ◌∙◌}
+use Rattle.std.proofs.Common.{ℕ, Bool, eqb, List, [], ◌∷◌, ◌++◌, get_or, is_ok, vec_items, sym, ap, ◌∙◌}
 use Rattle.std.proofs.ResultArms.{chosen}
 use Rattle.std.proofs.lemmas.List.{append_assoc}
 use Rattle.std.proofs.lemmas.Bool.{eq-eqb, ne_eqb}
