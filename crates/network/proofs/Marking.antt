@@ -111,22 +111,26 @@ module _ (m : Permuted) where
   pub placed_inside : (t : ℕ) → t < length (vec_items m.network.entries) → ((placed (orders m.order) (get_or (vec_items m.network.entries) t origin)).row < m.network.n) × ((placed (orders m.order) (get_or (vec_items m.network.entries) t origin)).column < m.network.n)
   placed_inside t h = ((row_stands m _ (row_inside m t h)).0, (column_stands m _ (column_inside m t h)).0)
 
-  told : (t : ℕ) → t < length (vec_items m.network.entries) → (o : Option Entry) → o ≡ place_told (pattern m.network) (orders m.order) t → o ≡ Some (placed_at (pattern m.network) (orders m.order) t)
-  told t h o is = is ∙ cond-true _ _ _ (lt-ltb _ _ h)
+  answered : (t : ℕ) → t < length (vec_items m.network.entries) → (o : Option Entry) → o ≡ place_told (pattern m.network) (orders m.order) t → o ≡ Some (placed_at (pattern m.network) (orders m.order) t)
+  answered t h o is = is ∙ cond-true _ _ _ (lt-ltb _ _ h)
+
+  -- the entry that is told is the one that was placed
+  pub told : (t : ℕ) (x : Entry) → t < length (vec_items m.network.entries) → Some x ≡ place_told (pattern m.network) (orders m.order) t → x ≡ placed_at (pattern m.network) (orders m.order) t
+  told t x h is = same_some (Some x) x _ refl (answered t h (Some x) is)
 
   -- one turn: the place that was told is marked
   pub step : (n t : ℕ) (marks : List Bool) (x : Entry) → n ≡ m.network.n → t < length (vec_items m.network.entries) → Some x ≡ place_told (pattern m.network) (orders m.order) t → Marked n (orders m.order) (vec_items m.network.entries) t marks → (x.row * n + x.column < length marks) × Marked n (orders m.order) (vec_items m.network.entries) (t + 1) (set marks (x.row * n + x.column) true)
   step n t marks x size h is marked =
       let o = orders m.order in
       let xs = vec_items m.network.entries in
-      let same = same_some (Some x) x _ refl (told t h (Some x) is) in
+      let same = told t x h is in
       let row : (placed o (get_or xs t origin)).row < n = subst (λ (k : ℕ). (placed o (get_or xs t origin)).row < k) (sym size) (placed_inside t h).0 in
       let column : (placed o (get_or xs t origin)).column < n = subst (λ (k : ℕ). (placed o (get_or xs t origin)).column < k) (sym size) (placed_inside t h).1 in
       subst (λ (y : Entry). (y.row * n + y.column < length marks) × Marked n o xs (t + 1) (set marks (y.row * n + y.column) true)) (sym same)
       (subst (λ (k : ℕ). (placed o (get_or xs t origin)).row * n + (placed o (get_or xs t origin)).column < k) (sym marked.whole) (inside n o xs t marks marked h row column), marked_more n o xs t marks marked h row column)
 
   pub always : (t : ℕ) → t < length (vec_items m.network.entries) → None ≡ place_told (pattern m.network) (orders m.order) t → ⊥
-  always t h is = never_none None _ refl (told t h None is)
+  always t h is = never_none None _ refl (answered t h None is)
 
   pub end : (n t : ℕ) (marks : List Bool) → n ≡ m.network.n → length (vec_items m.network.entries) ≤ t → Marked n (orders m.order) (vec_items m.network.entries) t marks → marks ≡ marks_of (pattern m.network) (orders m.order)
   end n t marks size past marked = marked_all marks t past (subst (λ (k : ℕ). Marked k (orders m.order) (vec_items m.network.entries) t marks) size marked)

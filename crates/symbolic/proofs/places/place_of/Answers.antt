@@ -1,6 +1,6 @@
-use Rattle.std.proofs.Common.{◌≡◌, ℕ, ◌+◌, ◌<◌, ◌≤◌, Bool, not, ltb, List, length, get_or, filter, refl, ap, ◌∙◌, arith}
+use Rattle.std.proofs.Common.{◌≡◌, ℕ, ◌+◌, ◌<◌, ◌≤◌, ltb, List, length, get_or, filter, ap, ◌∙◌, arith}
 use Rattle.std.proofs.lemmas.List.{get_or_read_under}
-use Rattle.std.proofs.lemmas.List.Filters.{length-filter_both}
+use Rattle.std.proofs.lemmas.List.Sums.{length-filter, count_by-le-length}
 use Rattle.elimination.specs.Fill.{Places}
 use Rattle.elimination.specs.Plans.{rows_of, start, stored_place}
 use Rattle.elimination.proofs.Storing.{kept_below, start_more, start_rises}
@@ -8,9 +8,6 @@ use Rattle.symbolic.specs.declared.patterns.Filled.{Filled}
 use Rattle.symbolic.specs.Filling.{filled_of, Holds}
 use Rattle.symbolic.proofs.FilledFacts.{start_at, rows_long, column_begins, column_rises, column_ends, column_is}
 use Rattle.symbolic.proofs.places.place_of.Goals as goal
-
-few : (p : ℕ → Bool) (xs : List ℕ) → length (filter p xs) ≤ length xs
-few p xs = omega (arith, length-filter_both p (λ i. not (p i)) (λ i. refl) xs)
 
 -- the place that comes of a column's start and the rows above
 module _ (f : Places) (n : ℕ) (x : Filled) (holds : Holds f n n x) (i k : ℕ) (row : i < n) (column : k < n) where
@@ -24,7 +21,7 @@ module _ (f : Places) (n : ℕ) (x : Filled) (holds : Holds f n n x) (i k : ℕ)
 
   small : (xs : List ℕ) (a : ℕ) → xs ≡ rows_of f n k → a ≡ length (filter (λ r. ltb r i) xs) → start f n k + a ≤ x.rows.len
   small xs a same is =
-      omega (arith, is, few (λ r. ltb r i) xs, ap length same, start_more f n k, start_rises f n n (k + 1) (omega arith), rows_long f n x holds)
+      omega (arith, is, length-filter (λ r. ltb r i) xs, count_by-le-length (λ r. ltb r i) xs, ap length same, start_more f n k, start_rises f n n (k + 1) (omega arith), rows_long f n x holds)
 
 pub index-requires : goal.index-requires
 index-requires c =
