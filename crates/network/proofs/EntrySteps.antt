@@ -1,29 +1,62 @@
--- One turn of the loops over a network sheet's entries. Assumes nothing.
-use Rattle.std.proofs.Common.{◌≡◌, ℕ, ◌+◌, ◌-◌, ◌<◌, List, [], ◌∷◌, ◌++◌, map, Some, Err, Option, sym, ap, ◌∙◌, add-one, arith}
+-- One turn of the loop that checks a network sheet's entries. Assumes nothing.
+use Rattle.std.proofs.Common.{◌≡◌, ℕ, ◌+◌, ◌-◌, ◌<◌, ◌≤◌, ◌^◌, List, [], ◌∷◌, map, length, Some, None, Err, Option, sym, refl, ap, ◌∙◌, subst, add-one, arith}
 use Rattle.std.specs.List.{range_with_len}
-use Rattle.std.proofs.lemmas.List.FromFn.{map-range_with_len_more}
 use Rattle.network.specs.declared.entries.Entry.{Entry}
 use Rattle.refusals.specs.declared.Refusal.{Refusal}
 use Rattle.refusals.specs.Checks.{Verdict, passed, each_from}
-use Rattle.network.specs.Entries.{entry_at}
+use Rattle.network.specs.Entries.{entry_at, entries_of}
 use Rattle.network.specs.NetworkSheet.{entry_checked, entry_verdict, entries_checked, earlier}
 use Rattle.refusals.proofs.Checking.{each_from_goes, each_from_stops}
+use Rattle.network.proofs.Remaining.{how_many, at_end, more, first_is, rest_is}
 
--- the check of what was read is the sheet's check of entry t
-pub said_is : (bytes : List ℕ) (n e t : ℕ) (before : Option Entry) (x : Entry) (v : Verdict) → x ≡ entry_at bytes e t → before ≡ earlier (entry_at bytes e) t → v ≡ entry_checked n t before x → entry_verdict bytes n e t ≡ v
-said_is bytes n e t before x v is was said = sym (said ∙ (λ i. entry_checked n t (was i) (is i)))
+-- the first t entries passed, and these are left
+pub record Passed (bytes : List ℕ) (n e t : ℕ) (before : Option Entry) (left : List Entry) : Type 0 where
+  pub few : t ≤ e
+  pub entries : left ≡ map (entry_at bytes e) (range_with_len t (e - t))
+  pub one_before : before ≡ earlier (entry_at bytes e) t
+  pub checks : each_from (entry_verdict bytes n e) t (e - t) ≡ entries_checked bytes n e
 
-module _ (bytes : List ℕ) (n e t : ℕ) (before : Option Entry) (x : Entry)
-    (more : t < e) (is : x ≡ entry_at bytes e t) (was : before ≡ earlier (entry_at bytes e) t)
-    (left : each_from (entry_verdict bytes n e) t (e - t) ≡ entries_checked bytes n e) where
-  pub goes : passed ≡ entry_checked n t before x → each_from (entry_verdict bytes n e) (t + 1) (e - (t + 1)) ≡ entries_checked bytes n e
-  goes said = sym (each_from_goes (entry_verdict bytes n e) t e more (said_is bytes n e t before x _ is was said)) ∙ left
+pub none_passed : (bytes : List ℕ) (n e t : ℕ) (left : List Entry) → t ≡ 0 → left ≡ entries_of bytes e → Passed bytes n e t None left
+none_passed bytes n e t left start all =
+    let whole : e - 0 ≡ e = omega arith in
+    subst (λ (k : ℕ). Passed bytes n e k None left) (sym start)
+    record {
+      few = omega arith;
+      entries = all ∙ ap (λ (k : ℕ). map (entry_at bytes e) (range_with_len 0 k)) (sym whole);
+      one_before = refl;
+      checks = ap (each_from (entry_verdict bytes n e) 0) whole;
+    }
 
-  pub stops : (refusal : Refusal) → Err refusal ≡ entry_checked n t before x → entries_checked bytes n e ≡ Err refusal
-  stops refusal said = sym left ∙ each_from_stops (entry_verdict bytes n e) t e refusal more (said_is bytes n e t before x _ is was said)
+module _ (bytes : List ℕ) (n e t : ℕ) (before : Option Entry) (left : List Entry) (so_far : Passed bytes n e t before left) where
+  pub few_left : e ≤ 8192 → t + length left < 2 ^ 64
+  few_left limit = omega (arith, so_far.few, how_many (entry_at bytes e) t e so_far.few left so_far.entries)
 
-pub now_earlier : (bytes : List ℕ) (e t : ℕ) (x : Entry) → x ≡ entry_at bytes e t → Some x ≡ earlier (entry_at bytes e) (t + 1)
-now_earlier bytes e t x is = rw add-one (ap Some is)
+  pub all_passed : left ≡ [] → passed ≡ entries_checked bytes n e
+  all_passed none =
+      let end = at_end (entry_at bytes e) t e so_far.few left so_far.entries none in
+      let over : e - t ≡ 0 = omega (arith, end) in
+      ap (each_from (entry_verdict bytes n e) t) (sym over) ∙ so_far.checks
 
-pub one_more : (bytes : List ℕ) (e t : ℕ) (x : Entry) (xs ys : List Entry) → x ≡ entry_at bytes e t → xs ≡ map (entry_at bytes e) (range_with_len 0 t) → ys ≡ xs ++ x ∷ [] → ys ≡ map (entry_at bytes e) (range_with_len 0 (t + 1))
-one_more bytes e t x xs ys is all items = items ∙ (λ i. all i ++ is i ∷ []) ∙ sym (map-range_with_len_more (entry_at bytes e) 0 t t (omega arith))
+  -- the next entry, and the check of it as entry i
+  module _ (i : ℕ) (x : Entry) (rest : List Entry) (some : left ≡ x ∷ rest) (place : i ≡ t) where
+    next : t < e
+    next = more (entry_at bytes e) t e so_far.few left so_far.entries x rest some
+
+    is : x ≡ entry_at bytes e t
+    is = first_is (entry_at bytes e) t e so_far.few left so_far.entries x rest some
+
+    said : (v : Verdict) → v ≡ entry_checked n i before x → entry_verdict bytes n e t ≡ v
+    said v says = sym (says ∙ (λ d. entry_checked n (place d) (so_far.one_before d) (is d)))
+
+    pub one_more : passed ≡ entry_checked n i before x → (j : ℕ) → j ≡ t + 1 → Passed bytes n e j (Some x) rest
+    one_more ok j after =
+        subst (λ (k : ℕ). Passed bytes n e k (Some x) rest) (sym after)
+        record {
+          few = omega (arith, next);
+          entries = rest_is (entry_at bytes e) t e so_far.few left so_far.entries x rest some;
+          one_before = rw add-one (ap Some is);
+          checks = sym (each_from_goes (entry_verdict bytes n e) t e next (said passed ok)) ∙ so_far.checks;
+        }
+
+    pub stops : (refusal : Refusal) → Err refusal ≡ entry_checked n i before x → Err refusal ≡ entries_checked bytes n e
+    stops refusal fails = sym (each_from_stops (entry_verdict bytes n e) t e refusal next (said (Err refusal) fails)) ∙ so_far.checks

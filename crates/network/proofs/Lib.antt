@@ -1,9 +1,14 @@
+pub mod BothChecked
+pub mod EntryPairs
 pub mod EntrySteps
 pub mod Marking
 pub mod NetworkFacts
 pub mod NetworkLaw
 pub mod Optional
 pub mod OrderLaw
+pub mod OrderParts
 pub mod OrderSteps
 pub mod Permuting
 pub mod Placing
+pub mod Reading
+pub mod Remaining

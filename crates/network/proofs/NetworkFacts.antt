@@ -75,28 +75,10 @@ pub record Kept (n : ℕ) (xs : List Entry) (len : ℕ) : Type 0 where
   pub inside : (t : ℕ) → t < len → ((get_or xs t origin).row < n) × ((get_or xs t origin).column < n)
   pub rising : (t : ℕ) → t + 1 < len → after (get_or xs (t + 1) origin) (get_or xs t origin) ≡ true
 
--- a sheet whose checks came to n and e
-module _ (bytes : List ℕ) (n e : ℕ) (checked : network_head bytes ≡ Ok (n, e)) where
-  all_passed : network_checked bytes ≡ passed
-  all_passed = (bind_passed (network_checked bytes) (λ _. Ok (word bytes 0, word bytes 2)) (n, e) checked).1
-
-  told : ◌≡◌ {A = ℕ × ℕ} (n, e) (word bytes 0, word bytes 2)
-  told = bind_told (network_checked bytes) (n, e) (word bytes 0, word bytes 2) checked
-
-  both : (head : ℕ × ℕ) × (head_checked bytes ≡ Ok head) × (entries_checked bytes head.0 head.1 ≡ passed)
-  both = bind_passed (head_checked bytes) (λ head. entries_checked bytes head.0 head.1) tt all_passed
-
-  same : both.0 ≡ (n, e)
-  same = (head_passed bytes both.0.0 both.0.1 both.1).told ∙ sym told
-
-  pub head : Head bytes n e
-  head = subst (λ (x : ℕ × ℕ). Head bytes x.0 x.1) same (head_passed bytes both.0.0 both.0.1 both.1)
-
-  entries_passed : entries_checked bytes n e ≡ passed
-  entries_passed = subst (λ (x : ℕ × ℕ). entries_checked bytes x.0 x.1 ≡ passed) same both.2
-
-  pub kept : (len : ℕ) (xs : List Entry) → xs ≡ entries_of bytes e → len ≡ length xs → Kept n xs len
-  kept len xs is long =
-      let long2 : len ≡ e = long ∙ ap length is ∙ length-map-range_with_len (entry_at bytes e) 0 e in
-      let there : Kept n (entries_of bytes e) e = record { columns_fit = head.n_fits; entries_fit = head.e_fits; inside = inside bytes n e entries_passed; rising = rising bytes n e entries_passed } in
-      subst (λ (l : ℕ). Kept n xs l) (sym long2) (subst (λ (ys : List Entry). Kept n ys e) (sym is) there)
+-- a sheet whose checks passed, with n and e at its head
+pub kept : (bytes : List ℕ) (n e : ℕ) → head_checked bytes ≡ Ok (n, e) → entries_checked bytes n e ≡ passed → (len : ℕ) (xs : List Entry) → xs ≡ entries_of bytes e → len ≡ length xs → Kept n xs len
+kept bytes n e checked all len xs is long =
+    let head = head_passed bytes n e checked in
+    let whole : len ≡ e = long ∙ ap length is ∙ length-map-range_with_len (entry_at bytes e) 0 e in
+    let there : Kept n (entries_of bytes e) e = record { columns_fit = head.n_fits; entries_fit = head.e_fits; inside = inside bytes n e all; rising = rising bytes n e all } in
+    subst (λ (l : ℕ). Kept n xs l) (sym whole) (subst (λ (ys : List Entry). Kept n ys e) (sym is) there)

@@ -16,7 +16,7 @@ use Rattle.network.proofs.OrderSteps.{length_words}
 use Rattle.network.proofs.Permuting.{met_here, met_taken}
 
 -- ---- all passed
-numbers_passed : (n base : ℕ) (xs : List ℕ) → length xs ≡ n → numbers_checked n xs base ≡ passed → Distinct xs
+pub numbers_passed : (n base : ℕ) (xs : List ℕ) → length xs ≡ n → numbers_checked n xs base ≡ passed → Distinct xs
 numbers_passed n base xs many all i inside =
     let here = (unless_passed (in_turn n xs i) (OrderNumber (base + i)) passed tt (each_from_passed (number_verdict n xs base) 0 n all i (omega arith) (omega arith))).0 in
     subst (λ (m : ℕ). in_turn m xs i ≡ true) (sym many) here

@@ -1,63 +1,94 @@
--- One turn of the loops over an order's numbers. Assumes nothing.
-use Rattle.std.proofs.Common.{◌≡◌, ℕ, ◌+◌, ◌-◌, ◌*◌, ◌<◌, ◌≤◌, Bool, true, false, not, ◌&&◌, ltb, leb, List, [], ◌∷◌, ◌++◌, length, get_or, Some, None, Err, Option, sym, ap, ◌∙◌, subst, arith}
-use Rattle.std.proofs.lemmas.List.FromFn.{get_or-map-range_with_len, length-map-range_with_len, map-range_with_len_more}
-use Rattle.std.proofs.lemmas.Bool.{cond-true, le-leb}
+-- One turn of the loop over an order's numbers. Assumes nothing.
+use Rattle.std.proofs.Common.{◌≡◌, ℕ, ◌+◌, ◌-◌, ◌*◌, ◌/◌, ◌<◌, ◌≤◌, ◌^◌, Bool, true, false, not, ◌&&◌, ltb, List, [], ◌∷◌, map, length, get_or, take, set, replicate, Err, sym, ap, ◌∙◌, subst, arith}
+use Rattle.std.specs.List.{range_with_len}
+use Rattle.std.proofs.lemmas.List.FromFn.{fill_by_all, get_or-map-range_with_len, length-map-range_with_len}
+use Rattle.std.proofs.lemmas.Bool.{ltb-true, and_parts}
+use Rattle.std.proofs.lemmas.List.{length-take}
 use Rattle.refusals.specs.declared.Refusal.TheVariants.{OrderNumber}
 use Rattle.refusals.specs.Checks.{passed, unless, each_from}
 use Rattle.network.specs.OrderSheet.{number_verdict, numbers_checked}
-use Rattle.network.specs.Words.{word, words, word_read, past}
+use Rattle.network.specs.Words.{word, words, words_from}
 use Rattle.refusals.proofs.Checking.{each_from_goes, each_from_stops}
-use Rattle.network.proofs.Permuting.{Marks, new_is}
-
-pub word_there : (bytes : List ℕ) (p : ℕ) → p + 2 ≤ length bytes → word_read bytes p ≡ Some (word bytes p)
-word_there bytes p h = cond-true (leb (p + 2) (length bytes)) (Some (word bytes p)) None (le-leb (p + 2) (length bytes) h)
-
-pub past_there : (bytes : List ℕ) (p : ℕ) → p + 2 ≤ length bytes → past bytes p ≡ p + 2
-past_there bytes p h = cond-true (leb (p + 2) (length bytes)) (p + 2) p (le-leb (p + 2) (length bytes) h)
-
-pub words_at : (bytes : List ℕ) (p n i : ℕ) → i < n → get_or (words bytes p n) i 0 ≡ word bytes (p + 2 * i)
-words_at bytes p n i h = get_or-map-range_with_len (λ t. word bytes (p + 2 * t)) 0 n i i 0 h (omega arith)
+use Rattle.network.proofs.Permuting.{Marks, marks_none, marks_more, unmarked, new_is}
+use Rattle.network.proofs.Remaining.{how_many, at_end, more, first_is, rest_is}
 
 pub length_words : (bytes : List ℕ) (p n : ℕ) → length (words bytes p n) ≡ n
 length_words bytes p n = length-map-range_with_len (λ t. word bytes (p + 2 * t)) 0 n
 
--- a reader that stands at number i of the n from p on
-module _ (bytes here : List ℕ) (p n i at : ℕ) (same : here ≡ bytes) (stands : at ≡ p + 2 * i) (more : i < n) (inside : p + 2 * n ≤ length bytes) where
-  reads : word_read here at ≡ Some (word bytes (p + 2 * i))
-  reads =
-      subst (λ (a : ℕ). word_read here a ≡ Some (word bytes (p + 2 * i))) (sym stands)
-      (subst (λ (bs : List ℕ). word_read bs (p + 2 * i) ≡ Some (word bytes (p + 2 * i))) (sym same) (word_there bytes (p + 2 * i) (omega arith)))
+-- the numbers of a list, two bytes each
+pub from_start : (bytes : List ℕ) → words_from bytes 0 ≡ words bytes 0 (length bytes / 2)
+from_start bytes = let e : (length bytes - 0) / 2 ≡ length bytes / 2 = omega arith in ap (words bytes 0) e
 
-  goes_on : past here at ≡ p + 2 * i + 2
-  goes_on =
-      subst (λ (a : ℕ). past here a ≡ p + 2 * i + 2) (sym stands)
-      (subst (λ (bs : List ℕ). past bs (p + 2 * i) ≡ p + 2 * i + 2) (sym same) (past_there bytes (p + 2 * i) (omega arith)))
+pub length_from : (bytes : List ℕ) → length (words_from bytes 0) ≡ length bytes / 2
+length_from bytes = ap length (from_start bytes) ∙ length_words bytes 0 (length bytes / 2)
 
-  pub number_is : (o : Option ℕ) (x : ℕ) → o ≡ Some x → o ≡ word_read here at → x ≡ get_or (words bytes p n) i 0
-  number_is o x is got =
-      let there = reads in
-      let value : x ≡ word bytes (p + 2 * i) = cc in
-      value ∙ sym (words_at bytes p n i more)
+abbrev number_at : List ℕ → ℕ → ℕ
+number_at bytes t = word bytes (0 + 2 * t)
 
-  pub next_stands : (to : ℕ) → to ≡ past here at → to ≡ p + 2 * (i + 1)
-  next_stands to is = omega (arith, is, goes_on)
+-- the first i numbers passed and are marked, and these are left
+pub record Passed (bytes : List ℕ) (n base i : ℕ) (seen : List Bool) (left : List ℕ) : Type 0 where
+  pub few : i ≤ n
+  pub numbers : left ≡ map (number_at bytes) (range_with_len i (n - i))
+  pub marks : Marks seen (words_from bytes 0) i
+  pub checks : each_from (number_verdict n (words_from bytes 0) base) i (n - i) ≡ numbers_checked n (words_from bytes 0) base
 
--- the test of the number at i, by marks
-module _ (xs : List ℕ) (n base i x : ℕ) (seen : List Bool) (few : n ≤ 512) (more : i < n) (is : x ≡ get_or xs i 0) (marks : Marks seen xs i)
-    (left : each_from (number_verdict n xs base) i (n - i) ≡ numbers_checked n xs base) where
-  verdict_is : (new : Bool) → new ≡ (ltb x n && not (get_or seen x false)) → number_verdict n xs base i ≡ unless new (OrderNumber (base + i)) passed
-  verdict_is new e = ap (λ (b : Bool). unless b (OrderNumber (base + i)) passed) (sym (e ∙ new_is seen xs n i x few is marks))
+pub none_passed : (bytes : List ℕ) (n base i : ℕ) (left : List ℕ) → n ≡ length bytes / 2 → i ≡ 0 → left ≡ words_from bytes 0 → Passed bytes n base i (replicate 512 false) left
+none_passed bytes n base i left size start all =
+    let whole : n - 0 ≡ n = omega arith in
+    subst (λ (k : ℕ). Passed bytes n base k (replicate 512 false) left) (sym start)
+    record {
+      few = omega arith;
+      numbers = all ∙ from_start bytes ∙ ap (λ (k : ℕ). map (number_at bytes) (range_with_len 0 k)) (sym size ∙ sym whole);
+      marks = marks_none (words_from bytes 0);
+      checks = ap (each_from (number_verdict n (words_from bytes 0) base) 0) whole;
+    }
 
-  pub goes : true ≡ (ltb x n && not (get_or seen x false)) → each_from (number_verdict n xs base) (i + 1) (n - (i + 1)) ≡ numbers_checked n xs base
-  goes new = sym (each_from_goes (number_verdict n xs base) i n more (verdict_is true new)) ∙ left
+module _ (bytes : List ℕ) (n base i : ℕ) (seen : List Bool) (left : List ℕ) (size : n ≡ length bytes / 2) (small : n ≤ 512) (so_far : Passed bytes n base i seen left) where
+  pub few_left : i + length left < 2 ^ 64
+  few_left = omega (arith, so_far.few, how_many (number_at bytes) i n so_far.few left so_far.numbers)
 
-  pub stops : false ≡ (ltb x n && not (get_or seen x false)) → numbers_checked n xs base ≡ Err (OrderNumber (base + i))
-  stops new = sym left ∙ each_from_stops (number_verdict n xs base) i n (OrderNumber (base + i)) more (verdict_is false new)
+  pub all_passed : left ≡ [] → passed ≡ numbers_checked n (words_from bytes 0) base
+  all_passed none =
+      let end = at_end (number_at bytes) i n so_far.few left so_far.numbers none in
+      let over : n - i ≡ 0 = omega (arith, end) in
+      ap (each_from (number_verdict n (words_from bytes 0) base) i) (sym over) ∙ so_far.checks
 
-pub start : (xs : List ℕ) (n base : ℕ) → each_from (number_verdict n xs base) 0 (n - 0) ≡ numbers_checked n xs base
-start xs n base = let e : n - 0 ≡ n = omega arith in rw e
+  -- the next number
+  module _ (x : ℕ) (rest : List ℕ) (some : left ≡ x ∷ rest) where
+    pub next : i < n
+    next = more (number_at bytes) i n so_far.few left so_far.numbers x rest some
 
-pub one_more : (bytes : List ℕ) (p n i x : ℕ) (xs ys : List ℕ) → i < n → x ≡ get_or (words bytes p n) i 0 → xs ≡ words bytes p i → ys ≡ xs ++ x ∷ [] → ys ≡ words bytes p (i + 1)
-one_more bytes p n i x xs ys more is all items =
-    let value = is ∙ words_at bytes p n i more in
-    items ∙ (λ k. all k ++ value k ∷ []) ∙ sym (map-range_with_len_more (λ t. word bytes (p + 2 * t)) 0 i i (omega arith))
+    is : x ≡ get_or (words_from bytes 0) i 0
+    is =
+        first_is (number_at bytes) i n so_far.few left so_far.numbers x rest some
+        ∙ sym (ap (λ (xs : List ℕ). get_or xs i 0) (from_start bytes) ∙ get_or-map-range_with_len (number_at bytes) 0 (length bytes / 2) i i 0 (omega (arith, next)) (omega arith))
+
+    verdict_is : (new : Bool) → new ≡ unmarked (take n seen) x → number_verdict n (words_from bytes 0) base i ≡ unless new (OrderNumber (base + i)) passed
+    verdict_is new e = ap (λ (b : Bool). unless b (OrderNumber (base + i)) passed) (sym (e ∙ new_is seen (words_from bytes 0) n i x small is so_far.marks))
+
+    pub marked : true ≡ unmarked (take n seen) x → x < n
+    marked new = omega (arith, length-take n seen, ltb-true x (length (take n seen)) (and_parts (ltb x (length (take n seen))) (not (get_or (take n seen) x false)) (sym new)).0)
+
+    pub one_more : true ≡ unmarked (take n seen) x → (j : ℕ) → j ≡ i + 1 → Passed bytes n base j (set seen x true) rest
+    one_more new j after =
+        subst (λ (k : ℕ). Passed bytes n base k (set seen x true) rest) (sym after)
+        record {
+          few = omega (arith, next);
+          numbers = rest_is (number_at bytes) i n so_far.few left so_far.numbers x rest some;
+          marks = marks_more seen (words_from bytes 0) i x (omega (arith, next, length_from bytes)) is so_far.marks;
+          checks = sym (each_from_goes (number_verdict n (words_from bytes 0) base) i n next (verdict_is true new)) ∙ so_far.checks;
+        }
+
+    pub stops : false ≡ unmarked (take n seen) x → Err (OrderNumber (base + i)) ≡ numbers_checked n (words_from bytes 0) base
+    stops new = sym (each_from_stops (number_verdict n (words_from bytes 0) base) i n (OrderNumber (base + i)) next (verdict_is false new)) ∙ so_far.checks
+
+-- ---- a list that stands in a sheet
+pub in_sheet : (xs bytes : List ℕ) (p n : ℕ) → length xs ≡ 2 * n → ((j : ℕ) → j < 2 * n → get_or xs j 0 ≡ get_or bytes (p + j) 0) → words_from xs 0 ≡ words bytes p n
+in_sheet xs bytes p n long same =
+    fill_by_all (λ t. word bytes (p + 2 * t)) (words_from xs 0) n 0 (omega (arith, length_from xs))
+    (λ k h.
+    let low = same (2 * k) (omega arith) in
+    let high : get_or xs (2 * k + 1) 0 ≡ get_or bytes (p + 2 * k + 1) 0 = same (2 * k + 1) (omega arith) ∙ ap (λ (q : ℕ). get_or bytes q 0) (omega arith) in
+    let there : word xs (0 + 2 * k) ≡ word xs (2 * k) = ap (word xs) (omega arith) in
+    ap (λ (ys : List ℕ). get_or ys k 0) (from_start xs) ∙ get_or-map-range_with_len (number_at xs) 0 (length xs / 2) k k 0 (omega arith) (omega arith)
+    ∙ there ∙ (λ d. low d + 256 * high d))

@@ -16,7 +16,7 @@ met_push v x (y ∷ xs) = elim (eqb y v) as (λ b. (b || met v (xs ++ x ∷ []))
 pub met_more : (v i : ℕ) (xs : List ℕ) → i < length xs → met v (take (i + 1) xs) ≡ (met v (take i xs) || eqb (get_or xs i 0) v)
 met_more v i xs h = ap (met v) (take_more xs i 0 h) ∙ met_push v (get_or xs i 0) (take i xs)
 
--- the marks of the numbers met so far, with one more
+-- the marks of the first i of xs
 abbrev pub Marks : List Bool → List ℕ → ℕ → Type 0
 Marks seen xs i = (length seen ≡ 512) × ((v : ℕ) → v < 512 → get_or seen v false ≡ met v (take i xs))
 
@@ -40,14 +40,22 @@ marks_more seen xs i x h is marks = (
   λ v inside. marked seen xs i x v is inside marks ∙ sym (met_more v i xs h),
 )
 
--- the test by marks is the test by what stands before
-pub new_is : (seen : List Bool) (xs : List ℕ) (n i x : ℕ) → n ≤ 512 → x ≡ get_or xs i 0 → Marks seen xs i → (ltb x n && not (get_or seen x false)) ≡ in_turn n xs i
+-- whether the mark of x is there and is not set
+abbrev pub unmarked : List Bool → ℕ → Bool
+unmarked seen x = ltb x (length seen) && not (get_or seen x false)
+
+-- the test by the first n marks is the test by what stands before
+pub new_is : (seen : List Bool) (xs : List ℕ) (n i x : ℕ) → n ≤ 512 → x ≡ get_or xs i 0 → Marks seen xs i → unmarked (take n seen) x ≡ in_turn n xs i
 new_is seen xs n i x few is marks =
-    subst (λ (y : ℕ). (ltb x n && not (get_or seen x false)) ≡ (ltb y n && not (met y (take i xs)))) is
-    (⊎_elim
-    (λ (small : ltb x n ≡ true). ap (λ (b : Bool). ltb x n && not b) (marks.1 x (omega (arith, ltb-true x n small))))
-    (λ (large : ltb x n ≡ false). and_left _ _ large ∙ sym (and_left _ _ large))
-    (cases_Bool (ltb x n)))
+    let whole : length (take n seen) ≡ n = omega (arith, length-take n seen, marks.0) in
+    ⊎_elim
+    (λ (small : ltb x n ≡ true).
+    let inside : x < n = ltb-true x n small in
+    (λ d. ltb x (whole d) && not ((get_or-take n seen x false inside ∙ marks.1 x (omega arith) ∙ ap (λ (y : ℕ). met y (take i xs)) is) d))
+    ∙ ap (λ (y : ℕ). ltb y n && not (met (get_or xs i 0) (take i xs))) is)
+    (λ (large : ltb x n ≡ false).
+    and_left _ _ (ap (ltb x) whole ∙ large) ∙ sym (and_left _ _ (ap (λ (y : ℕ). ltb y n) (sym is) ∙ large)))
+    (cases_Bool (ltb x n))
 
 -- ---- what stands once
 pub met_here : (xs : List ℕ) (i j v : ℕ) → j < i → j < length xs → get_or xs j 0 ≡ v → met v (take i xs) ≡ true

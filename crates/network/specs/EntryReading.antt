@@ -1,10 +1,14 @@
--- Where a reader of entries stands in a network sheet. Assumes nothing.
-use Rattle.std.specs.Prelude.{◌≡◌, ℕ, ◌+◌, ◌*◌, List}
+-- What a reader of entries has left to read. Assumes nothing.
+use Rattle.std.specs.Prelude.{ℕ, List, [], ◌∷◌}
+use Rattle.network.specs.declared.entries.Entry.{Entry}
 use Rattle.network.specs.declared.entries.EntryReader.{EntryReader}
+use Rattle.network.specs.Reading.{numbers_left}
 
--- x is about to read entry t of a sheet that has e of them
-pub record Stands (bytes : List ℕ) (e t : ℕ) (x : EntryReader) : Type 0 where
-  pub row_bytes : x.rows.bytes.now ≡ bytes
-  pub row_at : x.rows.at ≡ 4 + 2 * t
-  pub column_bytes : x.columns.bytes.now ≡ bytes
-  pub column_at : x.columns.at ≡ 4 + 2 * e + 2 * t
+-- the entries of these rows and columns, as far as there are both
+abbrev pub paired : List ℕ → List ℕ → List Entry
+paired [] columns = []
+paired (r ∷ rows) [] = []
+paired (r ∷ rows) (k ∷ columns) = record { column = k; row = r } ∷ paired rows columns
+
+abbrev pub entries_left : EntryReader → List Entry
+entries_left x = paired (numbers_left x.rows) (numbers_left x.columns)

@@ -2,8 +2,10 @@ pub mod BothSheets
 pub mod Entries
 pub mod EntryReading
 pub mod NetworkSheet
+pub mod OrderReading
 pub mod OrderSheet
 pub mod Permutations
 pub mod Permuted
+pub mod Reading
 pub mod Words
 pub mod Wrong

@@ -1,48 +1,58 @@
 // The entries of a network: the places where its matrix may hold a number.
-ghost use Rattle.std.specs.Prelude.{◌≡◌, ℕ, ◌+◌, ◌*◌, ◌<◌, ◌≤◌, List, length, Some};
-ghost use Rattle.network.specs.Entries.{after, entry_at};
-ghost use Rattle.network.specs.EntryReading.{Stands};
+ghost use Rattle.std.specs.Prelude.{◌≡◌};
+ghost use Rattle.network.specs.Entries.{after};
 
 use super::numbers::Reader;
 
-#[derive(Clone, Copy, PartialEq, Eq, Debug)]
+// Entries are in order by column, then by row.
+#[derive(Clone, Copy, PartialEq, Eq, PartialOrd, Ord, Debug)]
 pub struct Entry {
-    pub row: u16,
     pub column: u16,
+    pub row: u16,
 }
 
 impl Entry {
-    // Whether it comes after another: by column, then by row.
+    // Whether it comes after another.
     pub fn is_after(self, other: Entry) -> bool
         ensures { result ≡ after self other }
     {
-        other.column < self.column || (other.column == self.column && other.row < self.row)
+        self > other
     }
 }
 
-// Reads entries from a sheet that has their rows in one list and their columns in another.
-#[derive(Drop)]
+// Reads entries whose rows stand in one list and whose columns in another.
+#[derive(Clone, Copy)]
 pub(crate) struct EntryReader<'a> {
     rows: Reader<'a>,
     columns: Reader<'a>,
 }
 
 impl<'a> EntryReader<'a> {
-    // At the first entry of a network sheet that has e of them.
-    pub(crate) fn new(sheet: &'a [u8], e: u16) -> EntryReader<'a>
-        ensures { Stands sheet.now e 0 result }
+    // The rows stand from the first position on, the columns from the second.
+    pub(crate) fn new(bytes: &'a [u8], rows: usize, columns: usize) -> EntryReader<'a>
+        ensures rows { (result.rows.bytes.now ≡ bytes.now) × (result.rows.at ≡ rows) }
+        ensures columns { (result.columns.bytes.now ≡ bytes.now) × (result.columns.at ≡ columns) }
     {
-        let rows = Reader::new(sheet, 4);
-        let columns = Reader::new(sheet, 4 + 2 * e as usize);
-        EntryReader { rows, columns }
+        EntryReader {
+            rows: Reader::new(bytes, rows),
+            columns: Reader::new(bytes, columns),
+        }
     }
+}
 
-    // The next entry; nothing where the sheet ends before it.
-    pub(crate) fn next(&mut self) -> Option<Entry>
-        ensures { (bytes : List ℕ) (e t : ℕ) → Stands bytes e t self.old → 4 + 4 * e ≤ length bytes → t < e → (result ≡ Some (entry_at bytes e t)) × Stands bytes e (t + 1) self.new }
-    {
+impl Iterator for EntryReader<'_> {
+    type Item = Entry;
+
+    ghost use Rattle.std.specs.Iterator.{YieldsFirst, item_count};
+    ghost use Rattle.network.specs.EntryReading.{entries_left};
+
+    ghost next_gives = { YieldsFirst entries_left };
+
+    ghost remaining = { item_count entries_left };
+
+    fn next(&mut self) -> Option<Entry> {
         let row = self.rows.next()?;
         let column = self.columns.next()?;
-        Some(Entry { row, column })
+        Some(Entry { column, row })
     }
 }

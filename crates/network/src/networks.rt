@@ -7,7 +7,7 @@ use super::entries::Entry;
 mod reading;
 mod tellers;
 
-pub(crate) use reading::{check_network, copy_network};
+pub(crate) use reading::NetworkSheet;
 
 #[derive(Drop)]
 pub struct Network {

@@ -3,7 +3,7 @@ ghost use Rattle.std.specs.Prelude.{◌≡◌, ◌+◌};
 ghost use Rattle.network.specs.Words.{word_read, past};
 
 // Reads numbers from the caller's bytes, one after another from a position on.
-#[derive(Drop)]
+#[derive(Clone, Copy)]
 pub struct Reader<'a> {
     bytes: &'a [u8],
     at: usize,
@@ -16,19 +16,27 @@ impl<'a> Reader<'a> {
     {
         Reader { bytes, at }
     }
+}
+
+impl Iterator for Reader<'_> {
+    type Item = u16;
+
+    ghost use Rattle.std.specs.Iterator.{YieldsFirst, item_count};
+    ghost use Rattle.network.specs.Reading.{numbers_left};
+
+    ghost next_gives = { YieldsFirst numbers_left };
+
+    ghost remaining = { item_count numbers_left };
 
     // The number at the position, and the position moves past it; nothing, and it stays, where two bytes are not left.
-    pub fn next(&mut self) -> Option<u16>
+    fn next(&mut self) -> Option<u16>
         ensures value { result ≡ word_read self.old.bytes.now self.old.at }
         ensures position { self.new.at ≡ past self.old.bytes.now self.old.at }
         ensures same { self.new.bytes.now ≡ self.old.bytes.now }
     {
-        let bytes = self.bytes;
-        let at = self.at;
-        if bytes.len() < 2 || at > bytes.len() - 2 {
-            return None;
-        }
-        self.at = at + 2;
-        Some(u16::from(bytes[at]) + 256 * u16::from(bytes[at + 1]))
+        let low = *self.bytes.get(self.at)?;
+        let high = *self.bytes.get(self.at + 1)?;
+        self.at += 2;
+        Some(u16::from_le_bytes([low, high]))
     }
 }

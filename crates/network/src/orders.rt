@@ -6,7 +6,7 @@ use super::permutations::Permutation;
 mod reading;
 mod tellers;
 
-pub(crate) use reading::{check_order, copy_order};
+pub(crate) use reading::OrderSheet;
 
 #[derive(Drop)]
 pub struct Order {

@@ -5,7 +5,7 @@ ghost use Rattle.network.specs.Permutations.{position};
 mod reading;
 mod tellers;
 
-pub(crate) use reading::{check_numbers, read_numbers};
+pub(crate) use reading::NumberList;
 
 #[derive(Drop)]
 pub struct Permutation {

@@ -28,3 +28,8 @@ each_from check t (suc count) = bind (check t) (λ _. each_from check (t + 1) co
 abbrev pub Answers : {X : Type 0} → Verdict → (X → Type 0) → Result X Refusal → Type 0
 Answers (Ok x) P r = MatchResult r P (λ refusal. refusal ≡ OutOfMemory)
 Answers (Err refusal) P r = r ≡ Err refusal
+
+-- What a check answers that hands on what it looked at: the refusal; or, where all is in order, something of which P holds.
+abbrev pub Passes : {X Y : Type 0} → Result Y Refusal → (X → Type 0) → Result X Refusal → Type 0
+Passes (Ok y) P r = MatchResult r P (λ _. ⊥)
+Passes (Err refusal) P r = r ≡ Err refusal

@@ -1,22 +1,20 @@
 // What the permuted matrix tells.
-ghost use Rattle.std.specs.Prelude.{◌≡◌, ◌+◌, ◌*◌, ◌<◌, true, length, MatchResult, slice_set};
+ghost use Rattle.std.specs.Prelude.{◌≡◌, ◌+◌, ◌*◌, ◌<◌, true, IfOk, length, slice_set};
 ghost use Rattle.network.specs.NetworkSheet.{pattern};
 ghost use Rattle.network.specs.OrderSheet.{orders};
 ghost use Rattle.network.specs.Permuted.{place_told, marks_of};
-ghost use Rattle.refusals.specs.declared.Refusal.TheVariants.{OutOfMemory};
 
 use super::super::entries::Entry;
 use super::super::networks::Network;
 use super::super::orders::Order;
 use super::Permuted;
-use refusals::Refusal;
-use std::alloc::Global;
+use std::alloc::{AllocError, Global};
 
 fn mark(marks: &mut [bool], n: usize, place: Entry)
     requires { place.row * n + place.column < length marks.old }
     ensures { marks.new ≡ slice_set marks.old (place.row * n + place.column) true }
 {
-    marks[place.row as usize * n + place.column as usize] = true;
+    marks[usize::from(place.row) * n + usize::from(place.column)] = true;
 }
 
 impl Permuted {
@@ -41,13 +39,13 @@ impl Permuted {
     }
 
     // Whether B has an entry at each place, row by row.
-    pub fn marks(&self, heap: Global) -> Result<Vec<bool>, Refusal>
-        ensures { MatchResult result (λ v. v.items ≡ marks_of (pattern self.now.network) (orders self.now.order)) (λ refusal. refusal ≡ OutOfMemory) }
+    pub fn marks(&self, heap: Global) -> Result<Vec<bool>, AllocError>
+        ensures { IfOk result (λ v. v.items ≡ marks_of (pattern self.now.network) (orders self.now.order)) }
     {
-        let n = self.network.size() as usize;
+        let n = usize::from(self.network.size());
         let mut marks = vec![in heap; false; n * n]?;
-        for t in 0..self.network.entries().len() {
-            if let Some(place) = self.place(t) {
+        for entry in self.network.entries() {
+            if let Some(place) = self.order.place(*entry) {
                 mark(&mut marks, n, place);
             }
         }

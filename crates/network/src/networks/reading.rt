@@ -1,40 +1,65 @@
 // Judges a network sheet and reads it.
-ghost use Rattle.std.specs.Prelude.{◌≡◌, ◌+◌, ◌*◌, length, Ok, MatchResult};
-ghost use Rattle.refusals.specs.Checks.{Answers};
+ghost use Rattle.std.specs.Prelude.{◌≡◌, IfOk, Ok};
+ghost use Rattle.refusals.specs.Checks.{Answers, Passes, passed};
 ghost use Rattle.network.specs.Entries.{entries_of};
-ghost use Rattle.network.specs.NetworkSheet.{head_checked, entry_checked, entries_checked, network_head, network_checked, network_of, pattern};
+ghost use Rattle.network.specs.EntryReading.{entries_left};
+ghost use Rattle.network.specs.NetworkSheet.{head_checked, entry_checked, entries_checked, network_checked, network_of, pattern};
 ghost use Rattle.refusals.specs.Judging.{Judges};
 ghost use Rattle.network.specs.Wrong.{NetworkWrong};
-ghost use Rattle.refusals.specs.declared.Refusal.TheVariants.{OutOfMemory};
 
 use super::super::entries::{Entry, EntryReader};
 use super::super::limits::{MAX_COLUMNS, MAX_ENTRIES};
 use super::super::numbers::Reader;
 use super::Network;
 use refusals::Refusal;
-use std::alloc::Global;
+use std::alloc::{AllocError, Global};
 
-// n and e, where the sheet's length goes with them.
-fn check_head(sheet: &[u8]) -> Result<(u16, u16), Refusal>
-    ensures { result ≡ head_checked sheet.now }
-{
-    let mut reader = Reader::new(sheet, 0);
-    let Some(n) = reader.next() else {
-        return Err(Refusal::NetworkCut(sheet.len()));
-    };
-    let Some(e) = reader.next() else {
-        return Err(Refusal::NetworkCut(sheet.len()));
-    };
-    if n < 1 || n > MAX_COLUMNS {
-        return Err(Refusal::ColumnCount(n));
+// The n and e at the head of a network sheet, where they are within their limits and its length goes with them.
+#[derive(Clone, Copy)]
+struct Head<'a> {
+    sheet: &'a [u8],
+    n: u16,
+    e: u16,
+    ghost checked: { head_checked sheet.now ≡ Ok (n, e) },
+}
+
+impl<'a> Head<'a> {
+    fn check(sheet: &'a [u8]) -> Result<Head<'a>, Refusal>
+        ensures { Passes (head_checked sheet.now) (λ head. head.sheet.now ≡ sheet.now) result }
+    {
+        let mut reader = Reader::new(sheet, 0);
+        let cut = Refusal::NetworkCut(sheet.len());
+        let n = reader.next().ok_or(cut)?;
+        let e = reader.next().ok_or(cut)?;
+        if !(1..=MAX_COLUMNS).contains(&n) {
+            return Err(Refusal::ColumnCount(n));
+        }
+        if !(1..=MAX_ENTRIES).contains(&e) {
+            return Err(Refusal::EntryCount(e));
+        }
+        if sheet.len() != 4 + 4 * usize::from(e) {
+            return Err(Refusal::NetworkLength(sheet.len()));
+        }
+        Ok(Head { sheet, n, e })
     }
-    if e < 1 || e > MAX_ENTRIES {
-        return Err(Refusal::EntryCount(e));
+
+    // The entries, one after another.
+    fn entries(&self) -> EntryReader<'a>
+        ensures { entries_left result ≡ entries_of self.now.sheet.now self.now.e }
+    {
+        EntryReader::new(self.sheet, 4, 4 + 2 * usize::from(self.e))
     }
-    if sheet.len() != 4 + 4 * e as usize {
-        return Err(Refusal::NetworkLength(sheet.len()));
+
+    fn check_entries(&self) -> Result<(), Refusal>
+        ensures { result ≡ entries_checked self.now.sheet.now self.now.n self.now.e }
+    {
+        let mut before = None;
+        for (t, entry) in self.entries().enumerate() {
+            check_entry(self.n, t, before, entry)?;
+            before = Some(entry);
+        }
+        Ok(())
     }
-    Ok((n, e))
 }
 
 fn check_entry(n: u16, t: usize, before: Option<Entry>, entry: Entry) -> Result<(), Refusal>
@@ -51,53 +76,37 @@ fn check_entry(n: u16, t: usize, before: Option<Entry>, entry: Entry) -> Result<
     Ok(())
 }
 
-fn check_entries(sheet: &[u8], n: u16, e: u16) -> Result<(), Refusal>
-    requires { length sheet.now ≡ 4 + 4 * e }
-    ensures { result ≡ entries_checked sheet.now n e }
-{
-    let mut entries = EntryReader::new(sheet, e);
-    let mut before = None;
-    for t in 0..e as usize {
-        let Some(entry) = entries.next() else {
-            return Err(Refusal::NetworkLength(sheet.len()));
-        };
-        check_entry(n, t, before, entry)?;
-        before = Some(entry);
+// A network sheet that is in order.
+#[derive(Clone, Copy)]
+pub(crate) struct NetworkSheet<'a> {
+    head: Head<'a>,
+    ghost checked: { entries_checked head.sheet.now head.n head.e ≡ passed },
+}
+
+impl<'a> NetworkSheet<'a> {
+    // The sheet, or the first thing that is wrong with it.
+    pub(crate) fn check(sheet: &'a [u8]) -> Result<NetworkSheet<'a>, Refusal>
+        ensures { Passes (network_checked sheet.now) (λ checked. checked.head.sheet.now ≡ sheet.now) result }
+    {
+        let head = Head::check(sheet)?;
+        head.check_entries()?;
+        Ok(NetworkSheet { head })
     }
-    Ok(())
-}
 
-fn copy_entries(heap: Global, sheet: &[u8], e: u16) -> Result<Vec<Entry>, Refusal>
-    requires { length sheet.now ≡ 4 + 4 * e }
-    ensures { MatchResult result (λ v. v.items ≡ entries_of sheet.now e) (λ refusal. refusal ≡ OutOfMemory) }
-{
-    let mut all = Vec::new(heap);
-    let mut entries = EntryReader::new(sheet, e);
-    for t in 0..e as usize {
-        let Some(entry) = entries.next() else {
-            return Err(Refusal::NetworkLength(sheet.len()));
-        };
-        all.push(entry)?;
+    // n, the number of columns.
+    pub(crate) fn size(&self) -> u16
+        ensures { result ≡ self.now.head.n }
+    {
+        self.head.n
     }
-    Ok(all)
-}
 
-// n and e of a sheet in order, or the first thing that is wrong with it.
-pub(crate) fn check_network(sheet: &[u8]) -> Result<(u16, u16), Refusal>
-    ensures { result ≡ network_head sheet.now }
-{
-    let (n, e) = check_head(sheet)?;
-    check_entries(sheet, n, e)?;
-    Ok((n, e))
-}
-
-// Reads a sheet that was checked.
-pub(crate) fn copy_network(heap: Global, sheet: &[u8], n: u16, e: u16) -> Result<Network, Refusal>
-    requires { network_head sheet.now ≡ Ok (n, e) }
-    ensures { MatchResult result (λ m. pattern m ≡ network_of sheet.now) (λ refusal. refusal ≡ OutOfMemory) }
-{
-    let entries = copy_entries(heap, sheet, e)?;
-    Ok(Network { n, entries })
+    pub(crate) fn read(&self, heap: Global) -> Result<Network, AllocError>
+        ensures { IfOk result (λ m. pattern m ≡ network_of self.now.head.sheet.now) }
+    {
+        let n = self.head.n;
+        let entries = self.head.entries().collect(heap)?;
+        Ok(Network { n, entries })
+    }
 }
 
 impl Network {
@@ -106,7 +115,6 @@ impl Network {
         ensures answers { Answers (network_checked sheet.now) (λ m. pattern m ≡ network_of sheet.now) result }
         ensures judges { Judges (NetworkWrong sheet.now) result }
     {
-        let (n, e) = check_network(sheet)?;
-        copy_network(heap, sheet, n, e)
+        Ok(NetworkSheet::check(sheet)?.read(heap)?)
     }
 }

@@ -1,52 +1,63 @@
 // Judges an order sheet and reads it.
-ghost use Rattle.std.specs.Prelude.{◌≡◌, ◌≤◌, MatchResult};
-ghost use Rattle.refusals.specs.Checks.{Answers, passed};
+ghost use Rattle.std.specs.Prelude.{◌≡◌, ◌≤◌, IfOk, length};
+ghost use Rattle.refusals.specs.Checks.{Answers, Passes};
 ghost use Rattle.network.specs.OrderSheet.{size_checked, order_checked, order_of, orders};
 ghost use Rattle.refusals.specs.Judging.{Judges};
 ghost use Rattle.network.specs.Wrong.{OrderWrong};
-ghost use Rattle.refusals.specs.declared.Refusal.TheVariants.{OutOfMemory};
 
 use super::super::networks::Network;
 use super::super::numbers::Reader;
-use super::super::permutations::{Permutation, check_numbers, read_numbers};
+use super::super::permutations::NumberList;
 use super::Order;
 use refusals::Refusal;
-use std::alloc::Global;
+use std::alloc::{AllocError, Global};
 
 // Its length, and then its n, which has to be the network's.
 fn check_size(sheet: &[u8], n: u16) -> Result<(), Refusal>
     ensures { result ≡ size_checked n sheet.now }
 {
-    if sheet.len() != 2 + 4 * n as usize {
-        return Err(Refusal::OrderLength(sheet.len()));
+    let length = Refusal::OrderLength(sheet.len());
+    if sheet.len() != 2 + 4 * usize::from(n) {
+        return Err(length);
     }
-    let Some(found) = Reader::new(sheet, 0).next() else {
-        return Err(Refusal::OrderLength(sheet.len()));
-    };
+    let found = Reader::new(sheet, 0).next().ok_or(length)?;
     if found != n {
         return Err(Refusal::OrderSize(found));
     }
     Ok(())
 }
 
-// Says what is wrong first with the order sheet of a network of n columns.
-pub(crate) fn check_order(sheet: &[u8], n: u16) -> Result<(), Refusal>
-    requires { n ≤ 512 }
-    ensures { result ≡ order_checked n sheet.now }
-{
-    check_size(sheet, n)?;
-    check_numbers(sheet, 2, n, 0)?;
-    check_numbers(sheet, 2 + 2 * n as usize, n, n as usize)
+// An order sheet that is in order: the bytes of its row order and of its column order.
+#[derive(Clone, Copy)]
+pub(crate) struct OrderSheet<'a> {
+    rows: NumberList<'a>,
+    columns: NumberList<'a>,
+    ghost same: { length rows.bytes.now ≡ length columns.bytes.now },
 }
 
-// Reads a sheet that was checked.
-pub(crate) fn copy_order(heap: Global, sheet: &[u8], n: u16) -> Result<Order, Refusal>
-    requires { (n ≤ 512) × (order_checked n sheet.now ≡ passed) }
-    ensures { MatchResult result (λ o. orders o ≡ order_of n sheet.now) (λ refusal. refusal ≡ OutOfMemory) }
-{
-    let rows = read_numbers(heap, sheet, 2, n)?;
-    let columns = read_numbers(heap, sheet, 2 + 2 * n as usize, n)?;
-    Ok(Order { rows, columns })
+impl<'a> OrderSheet<'a> {
+    ghost use Rattle.network.specs.OrderReading.{listed};
+
+    // The order sheet of a network of n columns, or the first thing that is wrong with it.
+    pub(crate) fn check(sheet: &'a [u8], n: u16) -> Result<OrderSheet<'a>, Refusal>
+        requires { n ≤ 512 }
+        ensures { Passes (order_checked n sheet.now) (λ checked. listed checked ≡ order_of n sheet.now) result }
+    {
+        check_size(sheet, n)?;
+        let n = usize::from(n);
+        let (rows, columns) = sheet[2..].split_at(2 * n);
+        let rows = NumberList::check(rows, 0)?;
+        let columns = NumberList::check(columns, n)?;
+        Ok(OrderSheet { rows, columns })
+    }
+
+    pub(crate) fn read(&self, heap: Global) -> Result<Order, AllocError>
+        ensures { IfOk result (λ o. orders o ≡ listed self.now) }
+    {
+        let rows = self.rows.read(heap)?;
+        let columns = self.columns.read(heap)?;
+        Ok(Order { rows, columns })
+    }
 }
 
 impl Order {
@@ -55,8 +66,6 @@ impl Order {
         ensures answers { Answers (order_checked network.now.n sheet.now) (λ o. orders o ≡ order_of network.now.n sheet.now) result }
         ensures judges { Judges (OrderWrong network.now.n sheet.now) result }
     {
-        let n = network.size();
-        check_order(sheet, n)?;
-        copy_order(heap, sheet, n)
+        Ok(OrderSheet::check(sheet, network.size())?.read(heap)?)
     }
 }

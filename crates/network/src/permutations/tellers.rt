@@ -11,6 +11,13 @@ impl Permutation {
         self.numbers.len()
     }
 
+    // Its numbers, by index.
+    pub fn numbers(&self) -> &[u16]
+        ensures { result.now ≡ self.now.numbers.items }
+    {
+        self.numbers.as_slice()
+    }
+
     // The number at an index, if there is such an index.
     pub fn number(&self, index: usize) -> Option<u16>
         ensures { result ≡ (if nat_lt index (vec_len self.now.numbers) then Some (slice_index self.now.numbers.items index) else None) }
@@ -22,6 +29,6 @@ impl Permutation {
     pub fn position(&self, number: u16) -> Option<u16>
         ensures { result ≡ (if nat_lt number (vec_len self.now.numbers) then Some (position self.now.numbers.items number) else None) }
     {
-        self.positions.get(number as usize).copied()
+        self.positions.get(usize::from(number)).copied()
     }
 }

@@ -1,5 +1,5 @@
 -- The checks name the first thing that is wrong.
-use Rattle.std.proofs.Common.{◌≡◌, ℕ, List, Result, rules}
+use Rattle.std.proofs.Common.{◌≡◌, ℕ, List, Ok, Result, rules}
 use Rattle.network.specs.declared.networks.Network.{Network}
 use Rattle.refusals.specs.declared.Refusal.{Refusal}
 use Rattle.refusals.specs.Checks.{Answers}
@@ -16,12 +16,17 @@ Reads bytes r = Answers (network_checked bytes) (λ m. pattern m ≡ network_of 
 judged : (bytes : List ℕ) (r : Result Network Refusal) → Reads bytes r → Judges (NetworkWrong bytes) r
 judged bytes r a = judges (NetworkWrong bytes) (network_checked bytes) (λ m. pattern m ≡ network_of bytes) r (network_law bytes) a
 
-pub returns-in_err-n : goal.returns-in_err-n
-returns-in_err-n c =
+pub returns-in_err-check : goal.returns-in_err-check
+returns-in_err-check c =
     let a : Reads c.args.sheet.now c.from_residual.result = search rules in
+    record { answers = a; judges = judged c.args.sheet.now _ a }
+
+pub returns-in_err-read : goal.returns-in_err-read
+returns-in_err-read c =
+    let a : Reads c.args.sheet.now c.from_residual-in_err-read.result = search rules in
     record { answers = a; judges = judged c.args.sheet.now _ a }
 
 pub returns : goal.returns
 returns c =
-    let a : Reads c.args.sheet.now c.copy_network.result = search rules in
+    let a : Reads c.args.sheet.now (Ok c.in_ok-read.field-0) = search rules in
     record { answers = a; judges = judged c.args.sheet.now _ a }
