@@ -9,7 +9,7 @@ use Rattle.network.specs.declared.orders.Order.{Order}
 use Rattle.network.specs.BothSheets.{sheets_checked, Told}
 use Rattle.network.specs.NetworkSheet.{network_checked, network_of, pattern}
 use Rattle.network.specs.OrderSheet.{order_checked, order_of, orders}
-use Rattle.network.specs.Words.{word, words}
+use Rattle.network.specs.Words.{word}
 use Rattle.network.proofs.NetworkFacts.{head_passed}
 use Rattle.network.proofs.OrderSteps.{length_words}
 

@@ -1,9 +1,8 @@
 -- The rows and columns of a network sheet, read side by side, are its entries. Assumes nothing.
-use Rattle.std.proofs.Common.{◌≡◌, ℕ, zero, suc, ◌+◌, ◌-◌, ◌*◌, ◌/◌, ◌≤◌, List, []  , ◌∷◌, map, length, refl, ap, ◌∙◌, arith}
+use Rattle.std.proofs.Common.{◌≡◌, ℕ, zero, suc, ◌+◌, ◌-◌, ◌*◌, ◌/◌, ◌≤◌, List, ◌∷◌, map, length, refl, ap, ◌∙◌, arith}
 use Rattle.std.specs.List.{range_with_len}
-use Rattle.network.specs.declared.entries.Entry.{Entry}
 use Rattle.network.specs.declared.entries.EntryReader.{EntryReader}
-use Rattle.network.specs.Entries.{entry_at, entries_of}
+use Rattle.network.specs.Entries.{entries_of}
 use Rattle.network.specs.EntryReading.{paired, entries_left}
 use Rattle.network.specs.Words.{word, words, words_from}
 

@@ -4,7 +4,6 @@ pub mod EntrySteps
 pub mod Marking
 pub mod NetworkFacts
 pub mod NetworkLaw
-pub mod Optional
 pub mod OrderLaw
 pub mod OrderParts
 pub mod OrderSteps

@@ -1,5 +1,5 @@
 -- The marks of the permuted matrix's entries, row by row. Assumes nothing.
-use Rattle.std.proofs.Common.{◌≡◌, ℕ, suc, ◌+◌, ◌*◌, ◌/◌, ◌%◌, ◌<◌, ◌≤◌, Bool, true, false, ◌&&◌, ◌||◌, eqb, List, [], ◌∷◌, ◌++◌, map, length, get_or, take, set, replicate, Some, None, vec_items, Option, sym, refl, ap, ◌∙◌, subst, ⊎_elim, arith}
+use Rattle.std.proofs.Common.{◌≡◌, ℕ, suc, ◌+◌, ◌*◌, ◌/◌, ◌%◌, ◌<◌, ◌≤◌, Bool, true, false, ◌&&◌, ◌||◌, eqb, List, [], ◌∷◌, ◌++◌, map, length, get_or, take, set, replicate, Some, None, vec_items, vec_len, Option, sym, refl, ap, ◌∙◌, subst, ⊎_elim, arith}
 use Rattle.std.proofs.lemmas.Nat.{mul-add-lt, div-mul-add, mod-mul-add, div_below, mod_below, div-add-mod'}
 use Rattle.std.proofs.lemmas.List.FromFn.{fill_by_all}
 use Rattle.std.proofs.lemmas.List.{map_more, length-set, get_or-set_same, get_or-set_other, get_or-replicate, length-replicate, take_all}
@@ -10,8 +10,7 @@ use Rattle.network.specs.Entries.{origin}
 use Rattle.network.specs.NetworkSheet.{pattern}
 use Rattle.network.specs.OrderSheet.{Orders, orders}
 use Rattle.network.specs.Permutations.{position}
-use Rattle.network.specs.Permuted.{has_entry, permuted, placed, placed_at, place_told, marks_of}
-use Rattle.network.proofs.Optional.{same_some, never_none}
+use Rattle.network.specs.Permuted.{has_entry, permuted, placed, placed_at, place_in, place_told, marks_of}
 use Rattle.network.proofs.Permuting.{or_false, position_is}
 use Rattle.network.proofs.Placing.{p_size, q_size, row_inside, column_inside, row_stands, column_stands}
 
@@ -116,21 +115,33 @@ module _ (m : Permuted) where
 
   -- the entry that is told is the one that was placed
   pub told : (t : ℕ) (x : Entry) → t < length (vec_items m.network.entries) → Some x ≡ place_told (pattern m.network) (orders m.order) t → x ≡ placed_at (pattern m.network) (orders m.order) t
-  told t x h is = same_some (Some x) x _ refl (answered t h (Some x) is)
+  told t x h is = let e = answered t h (Some x) is in cc
 
-  -- one turn: the place that was told is marked
-  pub step : (n t : ℕ) (marks : List Bool) (x : Entry) → n ≡ m.network.n → t < length (vec_items m.network.entries) → Some x ≡ place_told (pattern m.network) (orders m.order) t → Marked n (orders m.order) (vec_items m.network.entries) t marks → (x.row * n + x.column < length marks) × Marked n (orders m.order) (vec_items m.network.entries) (t + 1) (set marks (x.row * n + x.column) true)
-  step n t marks x size h is marked =
+  -- the same, as the order tells it of an entry in a copy of the list
+  pub placed_in : (xs : List Entry) (t : ℕ) → xs ≡ vec_items m.network.entries → t < length (vec_items m.network.entries) → place_in (vec_len m.order.rows.numbers) (orders m.order) (get_or xs t origin) ≡ Some (placed_at (pattern m.network) (orders m.order) t)
+  placed_in xs t same h =
+      let row : (get_or (vec_items m.network.entries) t origin).row < vec_len m.order.rows.numbers = omega (arith, row_inside m t h, p_size m) in
+      let column : (get_or (vec_items m.network.entries) t origin).column < vec_len m.order.rows.numbers = omega (arith, column_inside m t h, p_size m) in
+      ap (λ (ys : List Entry). place_in (vec_len m.order.rows.numbers) (orders m.order) (get_or ys t origin)) same
+      ∙ cond-true _ _ _ (and_from _ _ (lt-ltb _ _ row) (lt-ltb _ _ column))
+
+  pub always : (t : ℕ) → t < length (vec_items m.network.entries) → None ≡ place_told (pattern m.network) (orders m.order) t → ⊥
+  always t h is = let e = answered t h None is in cc
+
+  pub always_in : (xs : List Entry) (t : ℕ) → xs ≡ vec_items m.network.entries → t < length (vec_items m.network.entries) → None ≡ place_in (vec_len m.order.rows.numbers) (orders m.order) (get_or xs t origin) → ⊥
+  always_in xs t same h is = let e = placed_in xs t same h in cc
+
+  -- one turn: the place is marked
+  pub step : (n t : ℕ) (xs : List Entry) (marks : List Bool) (x : Entry) → n ≡ m.network.n → xs ≡ vec_items m.network.entries → t < length (vec_items m.network.entries) → Some x ≡ place_in (vec_len m.order.rows.numbers) (orders m.order) (get_or xs t origin) → Marked n (orders m.order) (vec_items m.network.entries) t marks → (x.row * n + x.column < length marks) × Marked n (orders m.order) (vec_items m.network.entries) (t + 1) (set marks (x.row * n + x.column) true)
+  step n t ys marks x size copied h is marked =
       let o = orders m.order in
       let xs = vec_items m.network.entries in
-      let same = told t x h is in
+      let at = placed_in ys t copied h in
+      let same : x ≡ placed_at (pattern m.network) o t = cc in
       let row : (placed o (get_or xs t origin)).row < n = subst (λ (k : ℕ). (placed o (get_or xs t origin)).row < k) (sym size) (placed_inside t h).0 in
       let column : (placed o (get_or xs t origin)).column < n = subst (λ (k : ℕ). (placed o (get_or xs t origin)).column < k) (sym size) (placed_inside t h).1 in
       subst (λ (y : Entry). (y.row * n + y.column < length marks) × Marked n o xs (t + 1) (set marks (y.row * n + y.column) true)) (sym same)
       (subst (λ (k : ℕ). (placed o (get_or xs t origin)).row * n + (placed o (get_or xs t origin)).column < k) (sym marked.whole) (inside n o xs t marks marked h row column), marked_more n o xs t marks marked h row column)
-
-  pub always : (t : ℕ) → t < length (vec_items m.network.entries) → None ≡ place_told (pattern m.network) (orders m.order) t → ⊥
-  always t h is = never_none None _ refl (answered t h None is)
 
   pub end : (n t : ℕ) (marks : List Bool) → n ≡ m.network.n → length (vec_items m.network.entries) ≤ t → Marked n (orders m.order) (vec_items m.network.entries) t marks → marks ≡ marks_of (pattern m.network) (orders m.order)
   end n t marks size past marked = marked_all marks t past (subst (λ (k : ℕ). Marked k (orders m.order) (vec_items m.network.entries) t marks) size marked)

@@ -7,9 +7,9 @@ use Rattle.refusals.specs.declared.Refusal.{Refusal}
 use Rattle.refusals.specs.declared.Refusal.TheVariants.{NetworkCut, ColumnCount, EntryCount, NetworkLength, EntryOutside, EntryNotAfter}
 use Rattle.refusals.specs.Checks.{Verdict, passed, unless}
 use Rattle.network.specs.Entries.{after, entry_at, entries_of, origin}
-use Rattle.network.specs.NetworkSheet.{within, head_checked, follows, earlier, entry_checked, entry_verdict, entries_checked, network_checked, network_head}
+use Rattle.network.specs.NetworkSheet.{within, head_checked, follows, earlier, entry_checked, entry_verdict, entries_checked}
 use Rattle.network.specs.Words.{word}
-use Rattle.refusals.proofs.Checking.{unless_passed, bind_passed, bind_told, each_from_passed}
+use Rattle.refusals.proofs.Checking.{unless_passed, each_from_passed}
 
 pub record Head (bytes : List ℕ) (n e : ℕ) : Type 0 where
   pub told : ◌≡◌ {A = ℕ × ℕ} (n, e) (word bytes 0, word bytes 2)

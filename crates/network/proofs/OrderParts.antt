@@ -1,11 +1,12 @@
 -- The two lists of an order sheet whose length and n are right, and what their checks say of the sheet. Assumes nothing.
-use Rattle.std.proofs.Common.{◌≡◌, ℕ, ◌+◌, ◌-◌, ◌*◌, ◌/◌, eqb, List, length, get_or, take, drop, Err, sym, ap, ◌∙◌, arith}
+use Rattle.std.proofs.Common.{◌≡◌, ℕ, ◌+◌, ◌-◌, ◌*◌, ◌/◌, eqb, List, length, get_or, take, drop, sym, ap, ◌∙◌, arith}
 use Rattle.std.proofs.lemmas.Bool.{eqb-true}
 use Rattle.std.proofs.lemmas.List.{take_all, get_or-take, get_or-drop, length-take, length-drop}
-use Rattle.refusals.specs.declared.Refusal.{Refusal}
 use Rattle.refusals.specs.declared.Refusal.TheVariants.{OrderLength, OrderSize}
 use Rattle.refusals.specs.Checks.{Verdict, passed, unless, bind}
-use Rattle.network.specs.OrderSheet.{numbers_checked, size_checked, order_checked}
+use Rattle.network.specs.declared.orders.reading.OrderSheet.{OrderSheet}
+use Rattle.network.specs.OrderReading.{lists_checked, listed}
+use Rattle.network.specs.OrderSheet.{numbers_checked, size_checked, order_checked, order_of}
 use Rattle.network.specs.Words.{word, words, words_from}
 use Rattle.refusals.proofs.Checking.{unless_passed}
 use Rattle.network.proofs.OrderSteps.{in_sheet}
@@ -43,23 +44,15 @@ module _ (n m : ℕ) (sheet rows columns : List ℕ) (sized : passed ≡ size_ch
       let there : 2 + (2 * n + j) ≡ 2 + 2 * n + j = omega arith in
       ap (λ (xs : List ℕ). get_or xs j 0) back ∙ get_or-drop (2 * n) (drop 2 sheet) j 0 ∙ get_or-drop 2 sheet (2 * n + j) 0 ∙ ap (λ (q : ℕ). get_or sheet q 0) there)
 
-  rows_same : numbers_checked (length rows / 2) (words_from rows 0) 0 ≡ numbers_checked n (words sheet 2 n) 0
-  rows_same = let half : length rows / 2 ≡ n = omega (arith, rows_long) in λ d. numbers_checked (half d) (rows_are d) 0
+  -- the checks of the lists are those of the sheet
+  pub sheet_checked : lists_checked rows columns ≡ order_checked n sheet
+  sheet_checked =
+      let rows_half : length rows / 2 ≡ n = omega (arith, rows_long) in
+      let columns_half : length columns / 2 ≡ n = omega (arith, columns_long) in
+      (λ d. bind (numbers_checked (rows_half d) (rows_are d) 0) (λ _. numbers_checked (columns_half d) (columns_are d) (rows_half d)))
+      ∙ ap (λ (v : Verdict). bind v (λ _. bind (numbers_checked n (words sheet 2 n) 0) (λ _. numbers_checked n (words sheet (2 + 2 * n) n) n))) sized
 
-  columns_same : numbers_checked (length columns / 2) (words_from columns 0) m ≡ numbers_checked n (words sheet (2 + 2 * n) n) n
-  columns_same = let half : length columns / 2 ≡ n = omega (arith, columns_long) in λ d. numbers_checked (half d) (columns_are d) (count d)
-
-  -- the sheet's checks, with what each of the three says
-  order_is : (first second : Verdict) → numbers_checked (length rows / 2) (words_from rows 0) 0 ≡ first → numbers_checked (length columns / 2) (words_from columns 0) m ≡ second → order_checked n sheet ≡ bind first (λ _. second)
-  order_is first second rows_say columns_say =
-      ap (λ (v : Verdict). bind v (λ _. bind (numbers_checked n (words sheet 2 n) 0) (λ _. numbers_checked n (words sheet (2 + 2 * n) n) n))) (sym sized)
-      ∙ (λ d. bind ((sym rows_same ∙ rows_say) d) (λ _. (sym columns_same ∙ columns_say) d))
-
-  pub rows_refused : (refusal : Refusal) → numbers_checked (length rows / 2) (words_from rows 0) 0 ≡ Err refusal → order_checked n sheet ≡ Err refusal
-  rows_refused refusal say = order_is (Err refusal) _ say (λ _. numbers_checked (length columns / 2) (words_from columns 0) m)
-
-  pub columns_refused : (refusal : Refusal) → numbers_checked (length rows / 2) (words_from rows 0) 0 ≡ passed → numbers_checked (length columns / 2) (words_from columns 0) m ≡ Err refusal → order_checked n sheet ≡ Err refusal
-  columns_refused refusal rows_say say = order_is passed (Err refusal) rows_say say
-
-  pub all_passed : numbers_checked (length rows / 2) (words_from rows 0) 0 ≡ passed → numbers_checked (length columns / 2) (words_from columns 0) m ≡ passed → order_checked n sheet ≡ passed
-  all_passed rows_say columns_say = order_is passed passed rows_say columns_say
+  pub sheet_told : (checked : OrderSheet) → (checked.rows.bytes.now ≡ rows) × (checked.columns.bytes.now ≡ columns) → listed checked ≡ order_of n sheet
+  sheet_told checked same =
+      (λ d. record { rows = words_from (same.0 d) 0; columns = words_from (same.1 d) 0 })
+      ∙ (λ d. record { rows = rows_are d; columns = columns_are d })

@@ -1,5 +1,5 @@
 -- A network sheet and its order sheet, one after the other. Assumes nothing.
-use Rattle.std.specs.Prelude.{◌≡◌, ℕ, ◌⊎◌, List, Ok, Result}
+use Rattle.std.specs.Prelude.{◌≡◌, ℕ, ◌⊎◌, List}
 use Rattle.network.specs.declared.matrices.Permuted.{Permuted}
 use Rattle.refusals.specs.declared.Refusal.{Refusal}
 use Rattle.refusals.specs.Checks.{Verdict, bind}
@@ -10,10 +10,6 @@ use Rattle.network.specs.Wrong.{NetworkWrong, OrderWrong}
 
 abbrev pub sheets_checked : List ℕ → List ℕ → Verdict
 sheets_checked network order = bind (network_checked network) (λ _. order_checked (word network 0) order)
-
--- n and e of two sheets in order
-abbrev pub sheets_head : List ℕ → List ℕ → Result (ℕ × ℕ) Refusal
-sheets_head network order = bind (sheets_checked network order) (λ _. Ok (word network 0, word network 2))
 
 abbrev pub SheetsWrong : List ℕ → List ℕ → Refusal → Type 0
 SheetsWrong network order refusal = NetworkWrong network refusal ⊎ OrderWrong (word network 0) order refusal

@@ -46,10 +46,6 @@ entries_checked bytes n e = each_from (entry_verdict bytes n e) 0 e
 abbrev pub network_checked : List ℕ → Verdict
 network_checked bytes = bind (head_checked bytes) (λ head. entries_checked bytes head.0 head.1)
 
--- n and e of a sheet in order
-abbrev pub network_head : List ℕ → Result (ℕ × ℕ) Refusal
-network_head bytes = bind (network_checked bytes) (λ _. Ok (word bytes 0, word bytes 2))
-
 -- a network as a sheet tells it
 pub record Pattern : Type 0 where
   pub size : ℕ

@@ -16,24 +16,18 @@ pub each_from_stops : (check : ℕ → Verdict) (t n : ℕ) (refusal : Refusal) 
 each_from_stops check t n refusal h fails = each_from_more check t n h ∙ ap (λ v. bind v (λ _. each_from check (t + 1) (n - (t + 1)))) fails
 
 -- ---- all passed
-never_ok : {X : Type 0} (refusal : Refusal) (x : X) → ◌≡◌ {A = Result X Refusal} (Err refusal) (Ok x) → ⊥
-never_ok refusal x e = let z : ◌≡◌ {A = ℕ} 0 1 = cc in omega arith
-
 pub unless_passed : {X : Type 0} (ok : Bool) (refusal : Refusal) (rest : Result X Refusal) (x : X) → unless ok refusal rest ≡ Ok x → (ok ≡ true) × (rest ≡ Ok x)
 unless_passed true refusal rest x e = (refl, e)
-unless_passed false refusal rest x e = absurd (never_ok refusal x e)
-
-ok_is : {X : Type 0} (x y : X) → ◌≡◌ {A = Result X Refusal} (Ok y) (Ok x) → x ≡ y
-ok_is {X} x y e = cc
+unless_passed false refusal rest x e = cc
 
 -- the first of two
 pub bind_passed : {X Y : Type 0} (first : Result X Refusal) (rest : X → Result Y Refusal) (y : Y) → bind first rest ≡ Ok y → (x : X) × (first ≡ Ok x) × (rest x ≡ Ok y)
 bind_passed (Ok x) rest y e = (x, refl, e)
-bind_passed (Err refusal) rest y e = absurd (never_ok refusal y e)
+bind_passed (Err refusal) rest y e = cc
 
 pub bind_told : {X : Type 0} (v : Verdict) (x y : X) → bind v (λ _. Ok y) ≡ Ok x → x ≡ y
-bind_told {X} (Ok tt) x y e = ok_is x y e
-bind_told {X} (Err refusal) x y e = absurd (never_ok refusal x e)
+bind_told {X} (Ok tt) x y e = cc
+bind_told {X} (Err refusal) x y e = cc
 
 only : (v : Verdict) (x : Unit {0}) → v ≡ Ok x → v ≡ passed
 only v tt e = e
@@ -56,11 +50,16 @@ passes_err v P refusal r fails is = subst (λ (w : Result _ Refusal). Passes w P
 
 pub passes_held : {X : Type 0} (v : Verdict) (P : X → Type 0) (x : X) → Passes v P (Ok x) → (v ≡ passed) × P x
 passes_held (Ok tt) P x holds = (refl, holds)
-passes_held (Err refusal) P x is = absurd (never_ok refusal x (sym is))
+passes_held (Err refusal) P x is = cc
 
 pub passes_told : {X Y : Type 0} (v : Result Y Refusal) (P : X → Type 0) (refusal : Refusal) → Passes v P (Err refusal) → v ≡ Err refusal
 passes_told (Ok y) P refusal never = absurd never
 passes_told {X} {Y} (Err other) P refusal is = cc
+
+pub passes_as : {X : Type 0} (v w : Verdict) (P Q : X → Type 0) (r : Result X Refusal) → v ≡ w → ((x : X) → P x → Q x) → Passes v P r → Passes w Q r
+passes_as (Ok y) w P Q (Ok x) same more holds = subst (λ (u : Verdict). Passes u Q (Ok x)) same (more x holds)
+passes_as (Ok y) w P Q (Err refusal) same more never = absurd never
+passes_as (Err refusal) w P Q r same more is = subst (λ (u : Verdict). Passes u Q r) same is
 
 -- ---- what a call answers whose checks come to a verdict
 pub answers_ok : {X : Type 0} (v : Verdict) (P : X → Type 0) (x : X) → v ≡ passed → P x → Answers v P (Ok x)

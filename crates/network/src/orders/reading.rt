@@ -36,7 +36,19 @@ pub(crate) struct OrderSheet<'a> {
 }
 
 impl<'a> OrderSheet<'a> {
-    ghost use Rattle.network.specs.OrderReading.{listed};
+    ghost use Rattle.network.specs.OrderReading.{listed, lists_checked};
+
+    // Both lists, or the first number that is wrong: the columns are counted on from the rows.
+    fn check_lists(rows: &'a [u8], columns: &'a [u8]) -> Result<OrderSheet<'a>, Refusal>
+        requires few { length rows.now ≤ 1024 }
+        requires same { length rows.now ≡ length columns.now }
+        ensures { Passes (lists_checked rows.now columns.now) (λ checked. (checked.rows.bytes.now ≡ rows.now) × (checked.columns.bytes.now ≡ columns.now)) result }
+    {
+        let n = rows.len() / 2;
+        let rows = NumberList::check(rows, 0)?;
+        let columns = NumberList::check(columns, n)?;
+        Ok(OrderSheet { rows, columns })
+    }
 
     // The order sheet of a network of n columns, or the first thing that is wrong with it.
     pub(crate) fn check(sheet: &'a [u8], n: u16) -> Result<OrderSheet<'a>, Refusal>
@@ -44,11 +56,8 @@ impl<'a> OrderSheet<'a> {
         ensures { Passes (order_checked n sheet.now) (λ checked. listed checked ≡ order_of n sheet.now) result }
     {
         check_size(sheet, n)?;
-        let n = usize::from(n);
-        let (rows, columns) = sheet[2..].split_at(2 * n);
-        let rows = NumberList::check(rows, 0)?;
-        let columns = NumberList::check(columns, n)?;
-        Ok(OrderSheet { rows, columns })
+        let (rows, columns) = sheet[2..].split_at(2 * usize::from(n));
+        OrderSheet::check_lists(rows, columns)
     }
 
     pub(crate) fn read(&self, heap: Global) -> Result<Order, AllocError>

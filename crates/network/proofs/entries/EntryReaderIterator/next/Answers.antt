@@ -1,5 +1,3 @@
-use Rattle.std.proofs.Common.{◌≡◌, Some}
-use Rattle.std.specs.Iterator.{YieldsFirst}
 use Rattle.network.specs.EntryReading.{entries_left, paired}
 use Rattle.network.proofs.Reading.{reads_first, progress}
 use Rattle.network.proofs.entries.EntryReaderIterator.next.Goals as goal

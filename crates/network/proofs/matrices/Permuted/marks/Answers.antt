@@ -3,7 +3,7 @@ use Rattle.std.specs.Vec.{with_items}
 use Rattle.std.proofs.lemmas.List.{with_items_is, length-set}
 use Rattle.std.specs.declared.alloc.Global.{Global}
 use Rattle.network.specs.OrderSheet.{orders}
-use Rattle.network.proofs.Marking.{Marked, marked_none, step, always, end}
+use Rattle.network.proofs.Marking.{Marked, marked_none, step, always_in, end}
 use Rattle.network.proofs.matrices.Permuted.marks.Goals as goal
 use Rattle.network.proofs.matrices.Permuted.marks.Goals.{in-Some, in_default}
 
@@ -13,29 +13,32 @@ written v v' ws xs i is lent set' =
     let same = set' ∙ ap (λ (ys : List Bool). set ys i true) lent in
     ap (λ (u : Vec Bool Global). vec_items u) is ∙ with_items_is v ws (ap length same ∙ length-set (vec_items v) i true ∙ sym v.ok.0) ∙ same
 
-pub loop-t-init : goal.loop-t-init
-loop-t-init c =
-    subst (Marked c.size-n.result (orders c.args.self.now.order) c.args.self.now.network.entries.items 0) (sym (c.in_ok-marks.ensures.items_if_clones_equal (λ y e. e)))
-    (marked_none c.size-n.result _ _)
+pub loop-entry-init : goal.loop-entry-init
+loop-entry-init c =
+    subst (Marked c.from-n.result (orders c.args.self.now.order) c.args.self.now.network.entries.items 0) (sym (c.in_ok-marks.ensures.items_if_clones_equal (λ y e. e)))
+    (marked_none c.from-n.result _ _)
 
 pub mark-requires : goal.mark-requires
 mark-requires c =
-    let m = c.args.self.now in
-    let one = step m _ c.loop-t.t _ c.in-Some.place c.size-n.ensures (omega (arith, ap length c.entries-t-end.ensures)) c.in-Some.ensures c.loop-t.invariant in
-    omega (arith, one.0, c.loop-t.marks.ok.0)
+    let copied = c.entries-entry-items.ensures in
+    let one = step c.args.self.now _ c.loop-entry.entry-index _ _ c.in-Some.place (c.from-n.ensures ∙ c.size.ensures) copied (omega (arith, ap length copied)) c.in-Some.ensures c.loop-entry.invariant in
+    omega (arith, one.0, c.loop-entry.marks.ok.0)
 
-pub loop-t-preserved : goal.loop-t-preserved
-loop-t-preserved c =
+pub loop-entry-preserved : goal.loop-entry-preserved
+loop-entry-preserved c =
     let m = c.args.self.now in
-    let more : c.loop-t.t < length m.network.entries.items = omega (arith, ap length c.entries-t-end.ensures) in
+    let t = c.loop-entry.entry-index in
+    let n = c.from-n.result in
+    let copied = c.entries-entry-items.ensures in
+    let more : t < length m.network.entries.items = omega (arith, ap length copied) in
     elim c.match-place.branch [
       | in-Some w ↦
-          let marked = (step m _ c.loop-t.t _ w.in-Some.place c.size-n.ensures more w.in-Some.ensures c.loop-t.invariant).1 in
-          subst (Marked c.size-n.result (orders m.order) m.network.entries.items (c.loop-t.t + 1))
-          (sym (written c.loop-t.marks c.match-place.marks w.mark.new.marks w.deref_mut.result.now (w.in-Some.place.row * c.size-n.result + w.in-Some.place.column) w.marks-is w.deref_mut.ensures.value w.mark.ensures))
+          let marked = (step m _ t _ _ w.in-Some.place (c.from-n.ensures ∙ c.size.ensures) copied more w.in-Some.ensures c.loop-entry.invariant).1 in
+          subst (Marked n (orders m.order) m.network.entries.items (t + 1))
+          (sym (written c.loop-entry.marks c.match-place.marks w.mark.new.marks w.deref_mut.result.now (w.in-Some.place.row * n + w.in-Some.place.column) w.marks-is w.deref_mut.ensures.value w.mark.ensures))
           marked
-      | in_default w ↦ absurd (always m c.loop-t.t more w.in_default.ensures)
+      | in_default w ↦ absurd (always_in m _ t copied more w.in_default.ensures)
     ]
 
 pub returns : goal.returns
-returns c = end c.args.self.now _ c.loop-t.t _ c.size-n.ensures (omega (arith, ap length c.entries-t-end.ensures)) c.loop-t.invariant
+returns c = end c.args.self.now _ c.loop-entry.entry-index _ (c.from-n.ensures ∙ c.size.ensures) (omega (arith, ap length c.entries-entry-items.ensures)) c.loop-entry.invariant

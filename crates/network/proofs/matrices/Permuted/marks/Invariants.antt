@@ -3,5 +3,5 @@ use Rattle.network.specs.OrderSheet.{orders}
 use Rattle.network.proofs.Marking.{Marked}
 use Rattle.network.proofs.matrices.Permuted.marks.Given as goal
 
-abbrev pub invariant-loop-t : goal.invariant-loop-t
-invariant-loop-t l = Marked l.n (orders l.self.order) (vec_items l.self.network.entries) l.t (vec_items l.marks)
+abbrev pub invariant-loop-entry : goal.invariant-loop-entry
+invariant-loop-entry l = Marked l.n (orders l.self.order) (vec_items l.self.network.entries) l.entry-index (vec_items l.marks)

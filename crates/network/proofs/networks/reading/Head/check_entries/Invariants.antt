@@ -7,5 +7,5 @@ invariant-loop-t l =
     record {
       may : (goal.iterator-loop-t).can_next l.t-iterator;
       ends : (goal.iterator-loop-t).is_finite l.t-iterator;
-      so_far : Passed l.self.sheet.now l.self.n l.self.e l.t-iterator.count l.before (entries_left l.t-iterator.iter)
+      so_far : Passed l.self.sheet.now l.self.n l.self.e l.t-iterator.count l.before (entries_left l.t-iterator.iter);
     }

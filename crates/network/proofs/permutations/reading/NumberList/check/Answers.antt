@@ -1,11 +1,10 @@
-use Rattle.std.proofs.Common.{◌≡◌, ℕ, ◌+◌, ◌/◌, true, Err, length, set, ap, ◌∙◌, refl, sym, subst, inl, arith}
+use Rattle.std.proofs.Common.{ℕ, ◌+◌, ◌/◌, true, Err, length, set, ap, ◌∙◌, refl, sym, subst, inl, arith}
 use Rattle.refusals.specs.declared.Refusal.TheVariants.{OrderNumber}
 use Rattle.refusals.proofs.Checking.{passes_ok, passes_err}
-use Rattle.network.specs.OrderSheet.{numbers_checked}
 use Rattle.network.specs.Reading.{numbers_left}
 use Rattle.network.specs.Words.{words_from}
 use Rattle.network.proofs.OrderLaw.{numbers_passed}
-use Rattle.network.proofs.OrderSteps.{Passed, none_passed, few_left, all_passed, one_more, marked, stops, length_from}
+use Rattle.network.proofs.OrderSteps.{Passed, none_passed, few_left, all_passed, one_more, stops, length_from}
 use Rattle.network.proofs.permutations.reading.NumberList.check.Goals as goal
 
 pub loop-i-init : goal.loop-i-init

@@ -8,5 +8,5 @@ invariant-loop-i l =
     record {
       may : (goal.iterator-loop-i).can_next l.i-iterator;
       ends : (goal.iterator-loop-i).is_finite l.i-iterator;
-      so_far : Passed l.bytes (length l.bytes / 2) l.base l.i-iterator.count l.seen (numbers_left l.i-iterator.iter)
+      so_far : Passed l.bytes (length l.bytes / 2) l.base l.i-iterator.count l.seen (numbers_left l.i-iterator.iter);
     }
