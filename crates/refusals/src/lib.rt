@@ -103,6 +103,7 @@ impl Refusal {
         }
     }
 
+    // A usize is widened by a cast, since no `From` takes it to a u64.
     pub fn place(self) -> u64
         ensures { result ≡ place_of self }
     {
@@ -131,6 +132,7 @@ impl From<AllocError> for Refusal {
     }
 }
 
+// `?` takes an impl for each of the two errors of memory, and no bound fits both.
 impl<T: Drop> From<AllocFailed<T>> for Refusal {
     ghost from_gives = { λ _ r. r ≡ OutOfMemory };
 

@@ -11,6 +11,7 @@ use super::Permutation;
 use refusals::Refusal;
 use std::alloc::{AllocError, Global};
 
+// by a cast, since a constant calls no function
 const MARKS: usize = MAX_COLUMNS as usize;
 
 // Whether a number has a mark, and it is not set.
@@ -61,6 +62,7 @@ fn invert(heap: Global, numbers: &[u16]) -> Result<Vec<u16>, AllocError>
 {
     let mut positions = vec![in heap; 0u16; numbers.len()]?;
     for (i, number) in numbers.iter().enumerate() {
+        // by a cast: `try_from` would add a branch that is never taken
         positions[usize::from(*number)] = i as u16;
     }
     Ok(positions)
