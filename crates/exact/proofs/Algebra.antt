@@ -1,6 +1,6 @@
 -- What follows from the laws of an exact arithmetic. Assumes nothing.
-use Rattle.std.proofs.Common.{◌≡◌, true, false, sym, ap, ◌∙◌, ⊎_elim}
-use Rattle.std.proofs.lemmas.Bool.{cases_Bool, both_ways}
+use Rattle.std.proofs.Common.{◌≡◌, true, false, sym, ap, ◌∙◌}
+use Rattle.std.proofs.lemmas.Bool.{true_from_ne_false}
 use Rattle.scalar.specs.Meaning.{Meaning}
 use Rattle.exact.specs.Exact.{Exact}
 use Rattle.exact.specs.Field.{Field}
@@ -26,11 +26,10 @@ module _ {X : Type 0} {m : Meaning X} (e : Exact m) where
   product_distributes = e.product_distributes
 
   pub fit_not_zero : (p : X) → m.fit p ≡ true → p ≡ m.zero → ⊥
-  fit_not_zero p fit zero = both_ways (m.fit p) (ap m.fit zero ∙ e.zero_unfit) fit
+  fit_not_zero p fit zero = cc e.zero_unfit
 
   pub not_zero_fit : (p : X) → (p ≡ m.zero → ⊥) → m.fit p ≡ true
-  not_zero_fit p other =
-      ⊎_elim (λ (fit : m.fit p ≡ true). fit) (λ (unfit : m.fit p ≡ false). absurd (other (e.unfit_zero p unfit))) (cases_Bool (m.fit p))
+  not_zero_fit p other = true_from_ne_false (m.fit p) (λ unfit. other (e.unfit_zero p unfit))
 
   pub zero_sum : (x : X) → m.sum m.zero x ≡ x
   zero_sum x = e.sum_commutative m.zero x ∙ e.zero_added x
@@ -103,12 +102,10 @@ module _ {X : Type 0} {m : Meaning X} (e : Exact m) where
 
   pub no_zero_divisors : (x y : X) → m.fit x ≡ true → m.fit y ≡ true → m.fit (m.product x y) ≡ true
   no_zero_divisors x y fit fit' =
-      ⊎_elim (λ (is : m.fit (m.product x y) ≡ true). is)
+      true_from_ne_false (m.fit (m.product x y))
       (λ (unfit : m.fit (m.product x y) ≡ false).
-      let x_zero : x ≡ m.zero =
-      product_cancels x m.zero y fit' (e.unfit_zero (m.product x y) unfit ∙ sym (e.product_commutative m.zero y ∙ zero_product y)) in
-      cc e.zero_unfit)
-      (cases_Bool (m.fit (m.product x y)))
+      let x_zero : x ≡ m.zero = product_cancels x m.zero y fit' (e.unfit_zero (m.product x y) unfit ∙ sym (e.product_commutative m.zero y ∙ zero_product y)) in
+      fit_not_zero x fit x_zero)
 
   pub field : Field m
   field =

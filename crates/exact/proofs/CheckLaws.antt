@@ -1,25 +1,15 @@
 -- Check numbers are exact, and −1 is no square among them. Assumes nothing.
-use Rattle.std.proofs.Common.{◌≡◌, ℕ, ◌+◌, ◌-◌, ◌*◌, ◌/◌, ◌%◌, Bool, true, false, not, eqb, sym, refl, ap, ◌∙◌, add-zero, add_assoc, mod-eq_of_lt, mul_assoc, mul_comm, add-mul, add_comm, mul-one, mul-add, arith}
-use native.Mathlib.Nat.{mod-add-div, mod-add-mod, add-mod-mod, add-mod, add-mod_right, add-mul-mod_self_left}
-use Rattle.std.proofs.lemmas.Bool.{eqb-true, not-false}
+use Rattle.std.proofs.Common.{◌≡◌, ℕ, ◌+◌, ◌-◌, ◌*◌, ◌%◌, Bool, true, false, not, eqb, sym, refl, ap, ◌∙◌, add-zero, add_assoc, mod-eq_of_lt, mul_assoc, mul_comm, add_comm, mul-one, mul-add, arith}
+use native.Mathlib.Nat.{mod-add-mod, add-mod-mod, add-mod, add-mod_right}
+use Rattle.std.proofs.lemmas.Bool.{eqb-true, not-false, agree_below, agree_below_at}
+use Rattle.std.proofs.lemmas.Nat.{mul-mod_first, mul-mod_second}
 use Rattle.exact.specs.Exact.{Exact}
 use Rattle.scalar.specs.Pairs.{pairs}
 use Rattle.scalar.specs.Residues.{check_of, product_of, inverse_of, not_zero, check}
 use Rattle.scalar.specs.declared.residues.Check.{Check}
-use Rattle.scalar.proofs.Below.{passes_below, passes_at}
 use Rattle.scalar.proofs.Inverting.{same_check, inverts}
 use Rattle.exact.specs.Squares.{MinusOneNoSquare}
 use Rattle.exact.proofs.PairLaws.{pairs_exact}
-
--- a factor may be put down to its remainder first
-remainder_times : (n k m : ℕ) → n % m * k % m ≡ n * k % m
-remainder_times n k m =
-    sym
-    (ap (λ (l : ℕ). l * k % m) (sym (mod-add-div n m)) ∙ ap (λ (l : ℕ). l % m) (add-mul (n % m) (m * (n / m)) k ∙ ap (λ (l : ℕ). n % m * k + l) (mul_assoc m (n / m) k))
-    ∙ add-mul-mod_self_left (n % m * k) m (n / m * k))
-
-times_remainder : (n k m : ℕ) → n * (k % m) % m ≡ n * k % m
-times_remainder n k m = ap (λ (l : ℕ). l % m) (mul_comm n (k % m)) ∙ remainder_times k n m ∙ ap (λ (l : ℕ). l % m) (mul_comm k n)
 
 sum_associative : (x y z : Check) → check.sum (check.sum x y) z ≡ check.sum x (check.sum y z)
 sum_associative x y z =
@@ -33,8 +23,8 @@ sum_commutative x y = ap check_of (add_comm x.residue y.residue)
 product_associative : (x y z : Check) → check.product (check.product x y) z ≡ check.product x (check.product y z)
 product_associative x y z =
     same_check _ _
-    (remainder_times (x.residue * y.residue) z.residue 251 ∙ ap (λ (n : ℕ). n % 251) (mul_assoc x.residue y.residue z.residue)
-    ∙ sym (times_remainder x.residue (y.residue * z.residue) 251))
+    (mul-mod_first (x.residue * y.residue) z.residue 251 ∙ ap (λ (n : ℕ). n % 251) (mul_assoc x.residue y.residue z.residue)
+    ∙ sym (mul-mod_second x.residue (y.residue * z.residue) 251))
 
 product_commutative : (x y : Check) → check.product x y ≡ check.product y x
 product_commutative x y = ap check_of (mul_comm x.residue y.residue)
@@ -42,7 +32,7 @@ product_commutative x y = ap check_of (mul_comm x.residue y.residue)
 product_distributes : (x y z : Check) → check.product x (check.sum y z) ≡ check.sum (check.product x y) (check.product x z)
 product_distributes x y z =
     same_check _ _
-    (times_remainder x.residue (y.residue + z.residue) 251 ∙ ap (λ (n : ℕ). n % 251) (mul-add x.residue y.residue z.residue)
+    (mul-mod_second x.residue (y.residue + z.residue) 251 ∙ ap (λ (n : ℕ). n % 251) (mul-add x.residue y.residue z.residue)
     ∙ add-mod (x.residue * y.residue) (x.residue * z.residue) 251)
 
 zero_added : (x : Check) → check.sum x check.zero ≡ x
@@ -83,14 +73,14 @@ check_exact =
 no_root : ℕ → Bool
 no_root n = not (eqb ((n * n % 251 + 1) % 251) 0)
 
-no_roots : passes_below no_root 251 ≡ true
+no_roots : agree_below no_root (λ n. true) 251 ≡ true
 unfolding no_root
 no_roots = refl
 
 pub minus_one_no_square : MinusOneNoSquare check
 unfolding no_root
 minus_one_no_square x p fit =
-    ap (λ (one : Check). not_zero (check.sum (product_of x x) one)) ((inverts p).undoes fit) ∙ passes_at no_root 251 no_roots x.residue x.small
+    ap (λ (one : Check). not_zero (check.sum (product_of x x) one)) ((inverts p).undoes fit) ∙ agree_below_at no_root (λ n. true) 251 x.residue no_roots x.small
 
 pub check_pairs_exact : Exact (pairs check)
 check_pairs_exact = pairs_exact check_exact minus_one_no_square

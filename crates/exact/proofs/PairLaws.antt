@@ -1,6 +1,6 @@
 -- Pairs over an exact arithmetic in which −1 is no square are exact. Assumes nothing.
-use Rattle.std.proofs.Common.{◌≡◌, true, false, sym, ⊎_elim}
-use Rattle.std.proofs.lemmas.Bool.{cases_Bool}
+use Rattle.std.proofs.Common.{◌≡◌, true, false, sym}
+use Rattle.std.proofs.lemmas.Bool.{false_from_ne_true}
 use Rattle.scalar.specs.Meaning.{Meaning}
 use Rattle.exact.specs.Exact.{Exact}
 use Rattle.scalar.specs.Pairs.{pair, magnitude_squared, pairs}
@@ -83,17 +83,14 @@ module _ {X : Type 0} {m : Meaning X} (e : Exact m) where
   second_unfit : MinusOneNoSquare m → (c d : X) → m.fit (m.sum (m.product c c) (m.product d d)) ≡ false → m.fit d ≡ false
   second_unfit no-square c d unfit =
       let r = m.quotient c d in
-      ⊎_elim
+      false_from_ne_true (m.fit d)
       (λ (fit : m.fit d ≡ true).
       let sound = no_zero_divisors e (m.sum (m.product r r) (m.quotient d d)) (m.product d d) (no-square r d fit) (no_zero_divisors e d d fit fit) in
       cc (square_shared c d fit, sound))
-      (λ (is : m.fit d ≡ false). is)
-      (cases_Bool (m.fit d))
 
   first_unfit : (c d : X) → d ≡ m.zero → m.fit (m.sum (m.product c c) (m.product d d)) ≡ false → m.fit c ≡ false
   first_unfit c d zero unfit =
-      ⊎_elim (λ (fit : m.fit c ≡ true). cc (zero_product e m.zero, e.zero_added (m.product c c), no_zero_divisors e c c fit fit)) (λ (is : m.fit c ≡ false). is)
-      (cases_Bool (m.fit c))
+      false_from_ne_true (m.fit c) (λ (fit : m.fit c ≡ true). cc (zero_product e m.zero, e.zero_added (m.product c c), no_zero_divisors e c c fit fit))
 
   unfit_zero : MinusOneNoSquare m → (p : Pair X) → (pairs m).fit p ≡ false → p ≡ (pairs m).zero
   unfit_zero no-square p unfit =

@@ -19,24 +19,18 @@ pub fn undone<T: Scalar>(x: T, p: T) -> T
 }
 
 // An exact arithmetic is a field, and pairs over it are exact where −1 is no square.
-pub fn exact_is_field<T: Scalar>() -> u8
+pub fn exact_is_field<T: Scalar>()
     ensures field { Exact T.Scalar.meaning → Field T.Scalar.meaning }
     ensures of_pairs { Exact T.Scalar.meaning → MinusOneNoSquare T.Scalar.meaning → Exact (pairs T.Scalar.meaning) }
-{
-    0
-}
+{}
 
 // No check number times itself is −1.
-pub fn minus_one_is_no_square() -> u8
+pub fn minus_one_is_no_square()
     ensures { MinusOneNoSquare check }
-{
-    0
-}
+{}
 
 // Which doubles are fit, and doubles at which a law of exact arithmetics fails.
-pub fn laws_of_doubles() -> u8
+pub fn laws_of_doubles()
     ensures fit { FitDoubles }
     ensures rounding { Rounds }
-{
-    0
-}
+{}

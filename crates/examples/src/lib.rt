@@ -4,8 +4,6 @@
 ghost use Rattle.examples.specs.Worked.{WorkedNetwork};
 
 // Every example holds; there is nothing to compute.
-pub fn examples_hold() -> u8
+pub fn examples_hold()
     ensures { WorkedNetwork }
-{
-    0
-}
+{}

@@ -1,2 +1,1 @@
-pub mod Below
 pub mod Inverting

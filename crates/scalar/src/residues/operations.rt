@@ -26,7 +26,7 @@ impl Check {
     pub fn value(self) -> u32
         ensures { result ≡ self.residue }
     {
-        self.residue as u32
+        u32::from(self.residue)
     }
 
     // The number whose product with this one is 1; 0 for 0.
@@ -34,7 +34,7 @@ impl Check {
         ensures value { result ≡ inverse_of self }
         ensures inverts { Inverse self result }
     {
-        Check::new(inverse_at(self.value() as usize) as u32)
+        Check::new(u32::from(inverse_at(usize::from(self.residue))))
     }
 }
 
