@@ -34,13 +34,9 @@ fn sums_differences_and_products_of_all(rt: HostRuntime) {
 
 // The only number below 251 whose product with p leaves 1, found by trying all.
 fn tried_inverse(p: u8) -> u32 {
-    let mut found = 0;
-    for q in 0..251u32 {
-        if p as u32 * q % 251 == 1 {
-            found = q;
-        }
-    }
-    found
+    (0..251u32)
+        .find(|q| u32::from(p) * *q % 251 == 1)
+        .unwrap_or(0)
 }
 
 #[test]
@@ -48,7 +44,7 @@ fn inverses_of_all(rt: HostRuntime) {
     assert_eq!(rt; Check::new(0).inverse(), Check::new(0));
     for p in 1..251u8 {
         let inverse = tried_inverse(p);
-        let divisor = Check::new(p as u32);
+        let divisor = Check::new(u32::from(p));
         assert_eq!(rt; divisor.inverse().value(), inverse, "{}", p);
         assert_eq!(rt;
             Check::new(1).quotient(divisor),

@@ -1,5 +1,7 @@
 // Pairs over doubles, over check numbers and over pairs.
 use scalar::{Check, Pair, Scalar};
+use std::fmt::Debug;
+use std::process::Abort;
 use std::test::Fail;
 
 fn pair<T>((re, im): (T, T)) -> Pair<T> {
@@ -7,86 +9,130 @@ fn pair<T>((re, im): (T, T)) -> Pair<T> {
 }
 
 fn check_pair((re, im): (u32, u32)) -> Pair<Check> {
-    Pair {
-        re: Check::new(re),
-        im: Check::new(im),
+    pair((Check::new(re), Check::new(im)))
+}
+
+// Two pairs, and what each operation gives of them.
+struct Case<N> {
+    x: (N, N),
+    y: (N, N),
+    sum: (N, N),
+    difference: (N, N),
+    product: (N, N),
+    quotient: (N, N),
+}
+
+const REAL_PAIRS: [Case<f64>; 5] = [
+    Case {
+        x: (10.0, 5.0),
+        y: (3.0, 4.0),
+        sum: (13.0, 9.0),
+        difference: (7.0, 1.0),
+        product: (10.0, 55.0),
+        quotient: (2.0, -1.0),
+    },
+    Case {
+        x: (1.0, 0.0),
+        y: (0.0, 1.0),
+        sum: (1.0, 1.0),
+        difference: (1.0, -1.0),
+        product: (0.0, 1.0),
+        quotient: (0.0, -1.0),
+    },
+    Case {
+        x: (2.0, 4.0),
+        y: (4.0, 2.0),
+        sum: (6.0, 6.0),
+        difference: (-2.0, 2.0),
+        product: (0.0, 20.0),
+        quotient: (0.8, 0.6),
+    },
+    Case {
+        x: (1.0, 1.0),
+        y: (1.0, -1.0),
+        sum: (2.0, 0.0),
+        difference: (0.0, 2.0),
+        product: (2.0, 0.0),
+        quotient: (0.0, 1.0),
+    },
+    Case {
+        x: (0.5, -2.0),
+        y: (0.0, 4.0),
+        sum: (0.5, 2.0),
+        difference: (0.5, -6.0),
+        product: (8.0, 2.0),
+        quotient: (-0.5, -0.125),
+    },
+];
+
+const CHECK_PAIRS: [Case<u32>; 5] = [
+    Case {
+        x: (10, 5),
+        y: (3, 4),
+        sum: (13, 9),
+        difference: (7, 1),
+        product: (10, 55),
+        quotient: (2, 250),
+    },
+    Case {
+        x: (1, 0),
+        y: (0, 1),
+        sum: (1, 1),
+        difference: (1, 250),
+        product: (0, 1),
+        quotient: (0, 250),
+    },
+    Case {
+        x: (2, 4),
+        y: (4, 2),
+        sum: (6, 6),
+        difference: (249, 2),
+        product: (0, 20),
+        quotient: (51, 101),
+    },
+    Case {
+        x: (200, 7),
+        y: (13, 250),
+        sum: (213, 6),
+        difference: (187, 8),
+        product: (97, 142),
+        quotient: (188, 15),
+    },
+    Case {
+        x: (0, 1),
+        y: (2, 3),
+        sum: (2, 4),
+        difference: (249, 249),
+        product: (248, 2),
+        quotient: (174, 116),
+    },
+];
+
+fn check_operations<N: Copy, T: Scalar + PartialEq + Debug, F: Fn((N, N)) -> T>(
+    rt: &impl Abort,
+    of: F,
+    cases: &[Case<N>],
+)
+    requires { F.IsAlwaysCallable of }
+{
+    for case in cases {
+        let (x, y) = (of(case.x), of(case.y));
+        assert_eq!(rt; x.sum(y), of(case.sum));
+        assert_eq!(rt; x.difference(y), of(case.difference));
+        assert_eq!(rt; x.product(y), of(case.product));
+        assert_eq!(rt; x.quotient(y), of(case.quotient));
     }
 }
 
 #[test]
 fn real_pairs(rt: HostRuntime) {
-    for (x, y, sum, difference, product, quotient) in [
-        (
-            (10.0, 5.0),
-            (3.0, 4.0),
-            (13.0, 9.0),
-            (7.0, 1.0),
-            (10.0, 55.0),
-            (2.0, -1.0),
-        ),
-        (
-            (1.0, 0.0),
-            (0.0, 1.0),
-            (1.0, 1.0),
-            (1.0, -1.0),
-            (0.0, 1.0),
-            (0.0, -1.0),
-        ),
-        (
-            (2.0, 4.0),
-            (4.0, 2.0),
-            (6.0, 6.0),
-            (-2.0, 2.0),
-            (0.0, 20.0),
-            (0.8, 0.6),
-        ),
-        (
-            (1.0, 1.0),
-            (1.0, -1.0),
-            (2.0, 0.0),
-            (0.0, 2.0),
-            (2.0, 0.0),
-            (0.0, 1.0),
-        ),
-        (
-            (0.5, -2.0),
-            (0.0, 4.0),
-            (0.5, 2.0),
-            (0.5, -6.0),
-            (8.0, 2.0),
-            (-0.5, -0.125),
-        ),
-    ] {
-        let (x, y) = (pair(x), pair(y));
-        assert_eq!(rt; x.sum(y), pair(sum));
-        assert_eq!(rt; x.difference(y), pair(difference));
-        assert_eq!(rt; x.product(y), pair(product));
-        assert_eq!(rt; x.quotient(y), pair(quotient));
-    }
+    // a closure, since a generic function passed by its name is not proved
+    check_operations(&rt, |parts| pair(parts), &REAL_PAIRS);
 }
 
 #[test]
 fn check_pairs(rt: HostRuntime) {
-    for (x, y, sum, difference, product, quotient) in [
-        ((10, 5), (3, 4), (13, 9), (7, 1), (10, 55), (2, 250)),
-        ((1, 0), (0, 1), (1, 1), (1, 250), (0, 1), (0, 250)),
-        ((2, 4), (4, 2), (6, 6), (249, 2), (0, 20), (51, 101)),
-        (
-            (200, 7),
-            (13, 250),
-            (213, 6),
-            (187, 8),
-            (97, 142),
-            (188, 15),
-        ),
-        ((0, 1), (2, 3), (2, 4), (249, 249), (248, 2), (174, 116)),
-    ] {
-        let (x, y) = (check_pair(x), check_pair(y));
-        assert_eq!(rt; x.sum(y), check_pair(sum));
-        assert_eq!(rt; x.difference(y), check_pair(difference));
-        assert_eq!(rt; x.product(y), check_pair(product));
-        assert_eq!(rt; x.quotient(y), check_pair(quotient));
-    }
+    check_operations(&rt, check_pair, &CHECK_PAIRS);
 }
 
 #[test]
