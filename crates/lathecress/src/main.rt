@@ -42,7 +42,7 @@ fn print_pattern(rt: &HostRuntime, matrix: &Permuted) -> Result<(), Failure> {
     let heap = rt.alloc();
     let marks = matrix.marks(heap)?;
     println!(rt; "pattern")?;
-    for row in marks.chunks(matrix.network().size() as usize) {
+    for row in marks.chunks(usize::from(matrix.network().size())) {
         let text = pictures::row(heap, row)?;
         println!(rt; "  {text}")?;
     }

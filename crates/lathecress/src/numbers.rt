@@ -1,5 +1,7 @@
 // The arithmetics at work on the worked network's values.
-ghost use Rattle.std.specs.Prelude.{◌≡◌, if◌then◌else◌, codes};
+ghost use Rattle.std.specs.Prelude.{◌≡◌, ℕ, if◌then◌else◌, codes, pos};
+ghost use Rattle.std.specs.Float.{binary64};
+ghost use Rattle.std.specs.Float.Ieee.{of_int};
 ghost use Rattle.scalar.specs.Pairs.{pair};
 ghost use Rattle.scalar.specs.Residues.{check_of};
 
@@ -7,24 +9,54 @@ use super::failures::Failure;
 use super::worked;
 use exact::{Exactness, undone};
 use scalar::{Check, Pair, Scalar};
-use std::alloc::Global;
 use std::fmt::Display;
 
-const HEADINGS: [&str; 10] = [
-    "kind",
-    "exact",
-    "x",
-    "p",
-    "p fit",
-    "x + p",
-    "x - p",
-    "x * p",
-    "x / p",
-    "x / p * p",
+// each column's heading, and how wide it is
+const COLUMNS: [(&str, usize); 10] = [
+    ("kind", 10),
+    ("exact", 5),
+    ("x", 7),
+    ("p", 7),
+    ("p fit", 5),
+    ("x + p", 7),
+    ("x - p", 8),
+    ("x * p", 9),
+    ("x / p", 18),
+    ("x / p * p", 0),
 ];
 
-// how wide each column is
-const WIDTHS: [usize; 10] = [10, 5, 7, 7, 5, 7, 8, 9, 18, 0];
+// A kind of number that a value of the network is turned into.
+trait FromValue: Exactness + Display {
+    ghost of_value: { ℕ → Self };
+
+    fn from_value(value: u8) -> Self
+        ensures { result ≡ of_value value };
+}
+
+impl FromValue for f64 {
+    ghost of_value = { λ n. of_int binary64 (pos n) };
+
+    fn from_value(value: u8) -> f64 {
+        f64::from(value)
+    }
+}
+
+impl FromValue for Check {
+    ghost of_value = { check_of };
+
+    fn from_value(value: u8) -> Check {
+        Check::new(u32::from(value))
+    }
+}
+
+fn pair_of<T: FromValue>(re: u8, im: u8) -> Pair<T>
+    ensures { result ≡ pair (T.of_value re) (T.of_value im) }
+{
+    Pair {
+        re: T::from_value(re),
+        im: T::from_value(im),
+    }
+}
 
 fn yes_or_no(answer: bool) -> &'static str
     ensures { result.now ≡ (if answer then codes "yes" else codes "no") }
@@ -34,16 +66,10 @@ fn yes_or_no(answer: bool) -> &'static str
 
 // A line of the table, its cells in columns.
 fn print_line<T: Display>(rt: &HostRuntime, cells: &[T]) -> Result<(), Failure> {
-    for (cell, width) in cells.iter().zip(WIDTHS) {
+    for (cell, (_, width)) in cells.iter().zip(COLUMNS) {
         print!(rt; "  {cell:<width$}")?;
     }
     println!(rt; "")?;
-    Ok(())
-}
-
-// One more cell.
-fn add<T: Display>(heap: Global, cells: &mut Vec<String>, content: &T) -> Result<(), Failure> {
-    cells.push(content.to_string(heap)?)?;
     Ok(())
 }
 
@@ -55,17 +81,18 @@ fn print_row<T: Exactness + Display>(
     p: T,
 ) -> Result<(), Failure> {
     let heap = rt.alloc();
-    let mut cells = Vec::new(heap);
-    add(heap, &mut cells, &kind)?;
-    add(heap, &mut cells, &yes_or_no(T::is_exact()))?;
-    add(heap, &mut cells, &x)?;
-    add(heap, &mut cells, &p)?;
-    add(heap, &mut cells, &yes_or_no(p.fit()))?;
-    add(heap, &mut cells, &x.sum(p))?;
-    add(heap, &mut cells, &x.difference(p))?;
-    add(heap, &mut cells, &x.product(p))?;
-    add(heap, &mut cells, &x.quotient(p))?;
-    add(heap, &mut cells, &undone(x, p))?;
+    let cells = [
+        kind.to_string(heap)?,
+        yes_or_no(T::is_exact()).to_string(heap)?,
+        x.to_string(heap)?,
+        p.to_string(heap)?,
+        yes_or_no(p.fit()).to_string(heap)?,
+        x.sum(p).to_string(heap)?,
+        x.difference(p).to_string(heap)?,
+        x.product(p).to_string(heap)?,
+        x.quotient(p).to_string(heap)?,
+        undone(x, p).to_string(heap)?,
+    ];
     print_line(rt, &cells)
 }
 
@@ -76,41 +103,25 @@ fn print_values(rt: &HostRuntime) -> Result<(), Failure> {
     }
     print!(rt; "\ncheck numbers")?;
     for value in worked::VALUES {
-        let number = Check::new(value as u32);
+        let number = Check::from_value(value);
         print!(rt; " {number}")?;
     }
     println!(rt; "")?;
     Ok(())
 }
 
-fn real_pair(re: u8, im: u8) -> Pair<f64> {
-    Pair {
-        re: re as f64,
-        im: im as f64,
-    }
-}
-
-fn check_pair(re: u8, im: u8) -> Pair<Check>
-    ensures { result ≡ pair (check_of re) (check_of im) }
-{
-    Pair {
-        re: Check::new(re as u32),
-        im: Check::new(im as u32),
-    }
-}
-
 // Real and check numbers, then pairs of both.
 pub fn print_numbers(rt: &HostRuntime) -> Result<(), Failure> {
     print_values(rt)?;
     println!(rt; "arithmetic")?;
-    print_line(rt, &HEADINGS)?;
-    for (x, p) in [(2u8, 4u8), (9, 13), (2, 0)] {
-        print_row(rt, "real", x as f64, p as f64)?;
-        print_row(rt, "check", Check::new(x as u32), Check::new(p as u32))?;
+    print_line(rt, &COLUMNS.map(|(heading, _)| heading))?;
+    for (x, p) in [(2, 4), (9, 13), (2, 0)] {
+        print_row(rt, "real", f64::from_value(x), f64::from_value(p))?;
+        print_row(rt, "check", Check::from_value(x), Check::from_value(p))?;
     }
-    for ((a, b), (c, d)) in [((3u8, 2u8), (2u8, 4u8)), ((10, 5), (3, 4))] {
-        print_row(rt, "real pair", real_pair(a, b), real_pair(c, d))?;
-        print_row(rt, "check pair", check_pair(a, b), check_pair(c, d))?;
+    for ((a, b), (c, d)) in [((3, 2), (2, 4)), ((10, 5), (3, 4))] {
+        print_row::<Pair<f64>>(rt, "real pair", pair_of(a, b), pair_of(c, d))?;
+        print_row::<Pair<Check>>(rt, "check pair", pair_of(a, b), pair_of(c, d))?;
     }
     Ok(())
 }
