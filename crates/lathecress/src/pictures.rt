@@ -13,9 +13,5 @@ fn sign(mark: bool) -> char
 pub fn row(heap: Global, marks: &[bool]) -> Result<String, AllocError>
     ensures { IfOk result (λ s. string_bytes s ≡ map sign_of marks.now) }
 {
-    let mut text = String::new(heap);
-    for mark in marks {
-        text.push(sign(*mark))?;
-    }
-    Ok(text)
+    marks.iter().map(|mark| sign(*mark)).collect(heap)
 }
