@@ -32,11 +32,21 @@ fn worked_network(rt: HostRuntime) -> Result<(), Fail> {
     let sheet = sheets::bytes(heap, &sheets::WORKED, 44)?;
     let network = Network::read(heap, &sheet)?;
     assert_eq!(rt; network.size(), 4);
-    let rows = [0, 2, 1, 3, 0, 2, 3, 0, 1, 3];
-    let columns = [0, 0, 1, 1, 2, 2, 2, 3, 3, 3];
+    let entries = [
+        (0, 0),
+        (2, 0),
+        (1, 1),
+        (3, 1),
+        (0, 2),
+        (2, 2),
+        (3, 2),
+        (0, 3),
+        (1, 3),
+        (3, 3),
+    ];
     assert_eq!(rt; network.entries().len(), 10);
-    for (t, found) in network.entries().iter().enumerate().take(10) {
-        assert_eq!(rt; *found, entry(rows[t], columns[t]));
+    for (found, (row, column)) in network.entries().iter().zip(entries) {
+        assert_eq!(rt; *found, entry(row, column));
     }
     Ok(())
 }
@@ -60,10 +70,20 @@ fn orders_and_positions(rt: HostRuntime) -> Result<(), Fail> {
 #[test]
 fn places_in_the_permuted_matrix(rt: HostRuntime) -> Result<(), Fail> {
     let matrix = exchanged(rt.alloc())?;
-    let rows = [2, 3, 1, 0, 2, 3, 0, 2, 1, 0];
-    let columns = [1, 1, 0, 0, 3, 3, 3, 2, 2, 2];
-    for t in 0..10usize {
-        assert_eq!(rt; matrix.place(t), Some(entry(rows[t], columns[t])));
+    let places = [
+        (2, 1),
+        (3, 1),
+        (1, 0),
+        (0, 0),
+        (2, 3),
+        (3, 3),
+        (0, 3),
+        (2, 2),
+        (1, 2),
+        (0, 2),
+    ];
+    for (t, (row, column)) in places.into_iter().enumerate() {
+        assert_eq!(rt; matrix.place(t), Some(entry(row, column)));
     }
     assert_eq!(rt; matrix.place(10), None);
     Ok(())
@@ -83,15 +103,9 @@ fn marks_row_by_row(rt: HostRuntime) -> Result<(), Fail> {
 
 // A network of n columns with e entries, 16 to a column from row 0 on, as a sheet.
 fn full(heap: Global, n: u16, e: u16) -> Result<Vec<u8>, Fail> {
-    let mut numbers = Vec::new(heap);
-    numbers.push(n)?;
-    numbers.push(e)?;
-    for t in 0..e {
-        numbers.push(t % 16)?;
-    }
-    for t in 0..e {
-        numbers.push(t / 16)?;
-    }
+    let mut numbers = vec![in heap; n, e]?;
+    numbers.extend((0..e).map(|t| t % 16))?;
+    numbers.extend((0..e).map(|t| t / 16))?;
     let length = numbers.len().saturating_mul(2);
     Ok(sheets::bytes(heap, &numbers, length)?)
 }
@@ -102,7 +116,7 @@ fn largest_and_smallest(rt: HostRuntime) -> Result<(), Fail> {
     for (n, e) in [(512, 8192), (512, 8191), (512, 1), (16, 256), (1, 1)] {
         let network = Network::read(heap, &full(heap, n, e)?)?;
         assert_eq!(rt; network.size(), n);
-        assert_eq!(rt; network.entries().len(), e as usize);
+        assert_eq!(rt; network.entries().len(), usize::from(e));
     }
     match Network::read(heap, &full(heap, 512, 8193)?) {
         Ok(_) => Err(Fail::new("e 8193 was granted")),

@@ -12,9 +12,7 @@ pub const PLAIN: [u16; 9] = [4, 0, 1, 2, 3, 0, 1, 2, 3];
 pub fn bytes(heap: Global, numbers: &[u16], length: usize) -> Result<Vec<u8>, AllocError> {
     let mut sheet = Vec::new(heap);
     for number in numbers {
-        let [low, high] = number.to_le_bytes();
-        sheet.push(low)?;
-        sheet.push(high)?;
+        sheet.extend_from_slice(&number.to_le_bytes())?;
     }
     sheet.resize(length, 0)?;
     Ok(sheet)
