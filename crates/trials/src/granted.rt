@@ -33,21 +33,19 @@ fn worked_network(rt: HostRuntime) -> Result<(), Fail> {
     let network = Network::read(heap, &sheet)?;
     assert_eq!(rt; network.size(), 4);
     let entries = [
-        (0, 0),
-        (2, 0),
-        (1, 1),
-        (3, 1),
-        (0, 2),
-        (2, 2),
-        (3, 2),
-        (0, 3),
-        (1, 3),
-        (3, 3),
+        entry(0, 0),
+        entry(2, 0),
+        entry(1, 1),
+        entry(3, 1),
+        entry(0, 2),
+        entry(2, 2),
+        entry(3, 2),
+        entry(0, 3),
+        entry(1, 3),
+        entry(3, 3),
     ];
     assert_eq!(rt; network.entries().len(), 10);
-    for (found, (row, column)) in network.entries().iter().zip(entries) {
-        assert_eq!(rt; *found, entry(row, column));
-    }
+    assert_eq!(rt; network.entries(), entries.as_slice());
     Ok(())
 }
 
@@ -71,19 +69,19 @@ fn orders_and_positions(rt: HostRuntime) -> Result<(), Fail> {
 fn places_in_the_permuted_matrix(rt: HostRuntime) -> Result<(), Fail> {
     let matrix = exchanged(rt.alloc())?;
     let places = [
-        (2, 1),
-        (3, 1),
-        (1, 0),
-        (0, 0),
-        (2, 3),
-        (3, 3),
-        (0, 3),
-        (2, 2),
-        (1, 2),
-        (0, 2),
+        entry(2, 1),
+        entry(3, 1),
+        entry(1, 0),
+        entry(0, 0),
+        entry(2, 3),
+        entry(3, 3),
+        entry(0, 3),
+        entry(2, 2),
+        entry(1, 2),
+        entry(0, 2),
     ];
-    for (t, (row, column)) in places.into_iter().enumerate() {
-        assert_eq!(rt; matrix.place(t), Some(entry(row, column)));
+    for (t, place) in places.into_iter().enumerate() {
+        assert_eq!(rt; matrix.place(t), Some(place));
     }
     assert_eq!(rt; matrix.place(10), None);
     Ok(())
