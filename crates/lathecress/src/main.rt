@@ -29,10 +29,8 @@ and the exit status is 1. docs/FORMATS.md has the sheets and the refusals.";
 // The orders as they stand in their sheet, one line each.
 fn print_order(rt: &HostRuntime, name: &str, order: &Permutation) -> Result<(), Failure> {
     print!(rt; "{name}")?;
-    for i in 0..order.size() {
-        if let Some(number) = order.number(i) {
-            print!(rt; " {number}")?;
-        }
+    for number in order.numbers() {
+        print!(rt; " {number}")?;
     }
     println!(rt; "")?;
     Ok(())

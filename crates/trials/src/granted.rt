@@ -11,6 +11,7 @@ fn entry(row: u16, column: u16) -> Entry {
 
 fn check_numbers(rt: &impl Abort, order: &Permutation, numbers: &[u16]) {
     assert_eq!(rt; order.size(), numbers.len());
+    assert_eq!(rt; order.numbers(), numbers);
     for (i, number) in numbers.iter().enumerate() {
         assert_eq!(rt; order.number(i), Some(*number));
         assert_eq!(rt; order.position(*number), u16::try_from(i).ok());
