@@ -1,7 +1,7 @@
 -- What it says of a network sheet that its checks passed. Assumes nothing.
 use Rattle.std.proofs.Common.{◌≡◌, ℕ, ◌+◌, ◌*◌, ◌<◌, ◌≤◌, true, ◌&&◌, eqb, ltb, leb, List, length, get_or, Ok, Option, Result, sym, ap, ◌∙◌, subst, add-one, arith}
 use Rattle.std.proofs.lemmas.List.FromFn.{get_or-map-range_with_len, length-map-range_with_len}
-use Rattle.std.proofs.lemmas.Bool.{and_parts, leb-true, ltb-true, eqb-true}
+use Rattle.std.proofs.lemmas.Bool.{and_parts, ltb-true, eqb-true}
 use Rattle.network.specs.declared.entries.Entry.{Entry}
 use Rattle.refusals.specs.declared.Refusal.{Refusal}
 use Rattle.refusals.specs.declared.Refusal.TheVariants.{NetworkCut, ColumnCount, EntryCount, NetworkLength, EntryOutside, EntryNotAfter}
@@ -9,6 +9,7 @@ use Rattle.refusals.specs.Checks.{Verdict, passed, unless}
 use Rattle.network.specs.Entries.{after, entry_at, entries_of, origin}
 use Rattle.network.specs.NetworkSheet.{within, head_checked, follows, earlier, entry_checked, entry_verdict, entries_checked}
 use Rattle.network.specs.Words.{word}
+use Rattle.network.proofs.NetworkLaw.{within_true}
 use Rattle.refusals.proofs.Checking.{unless_passed, each_from_passed}
 
 pub record Head (bytes : List ℕ) (n e : ℕ) : Type 0 where
@@ -16,11 +17,6 @@ pub record Head (bytes : List ℕ) (n e : ℕ) : Type 0 where
   pub n_fits : (1 ≤ n) × (n ≤ 512)
   pub e_fits : (1 ≤ e) × (e ≤ 8192)
   pub long : length bytes ≡ 4 + 4 * e
-
-within_true : (low high x : ℕ) → within low high x ≡ true → (low ≤ x) × (x ≤ high)
-within_true low high x t =
-    let two = and_parts (leb low x) (leb x high) t in
-    (leb-true low x two.0, leb-true x high two.1)
 
 pub head_passed : (bytes : List ℕ) (n e : ℕ) → head_checked bytes ≡ Ok (n, e) → Head bytes n e
 head_passed bytes n e is =

@@ -16,11 +16,14 @@ pub outside_from : (low high x : ℕ) → within low high x ≡ false → Outsid
 outside_from low high x e =
     ⊎_elim (λ (a : leb low x ≡ false). inl (leb-false low x a)) (λ (b : leb x high ≡ false). inr (leb-false x high b)) (and_cases (leb low x) (leb x high) e)
 
+pub within_true : (low high x : ℕ) → within low high x ≡ true → (low ≤ x) × (x ≤ high)
+within_true low high x e =
+    let two = and_parts (leb low x) (leb x high) e in
+    (leb-true low x two.0, leb-true x high two.1)
+
 pub never_outside : (low high x : ℕ) → within low high x ≡ true → Outside low high x → ⊥
 never_outside low high x e out =
-    let two = and_parts (leb low x) (leb x high) e in
-    let a = leb-true low x two.0 in
-    let b = leb-true x high two.1 in
+    let fits = within_true low high x e in
     ⊎_elim (λ (l : x < low). omega arith) (λ (h : high < x). omega arith) out
 
 module _ (bytes : List ℕ) where
