@@ -21,7 +21,7 @@ impl Entry {
 }
 
 // Reads entries whose rows stand in one list and whose columns in another.
-#[derive(Clone, Copy)]
+#[derive(Drop)]
 pub(crate) struct EntryReader<'a> {
     rows: Reader<'a>,
     columns: Reader<'a>,

@@ -3,7 +3,7 @@ ghost use Rattle.std.specs.Prelude.{◌≡◌, ◌+◌};
 ghost use Rattle.network.specs.Words.{word_read, past};
 
 // Reads numbers from the caller's bytes, one after another from a position on.
-#[derive(Clone, Copy)]
+#[derive(Drop)]
 pub struct Reader<'a> {
     bytes: &'a [u8],
     at: usize,
