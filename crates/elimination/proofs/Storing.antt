@@ -6,10 +6,11 @@ use Rattle.std.proofs.ByRecursion.{All-get_or, All-weaker}
 use Rattle.std.proofs.lemmas.List.{append-nil, append_assoc, map-append, length-append, length-map, take_at, drop_at, get_or-append-add}
 use Rattle.std.proofs.lemmas.Bool.{cases_eq, cases_lt, cases_Bool, eq-eqb, ne_eqb, lt-ltb, le-ltb, and_from, and_right, cond-true, cond-false}
 use Rattle.network.specs.declared.entries.Entry.{Entry}
+use Rattle.network.specs.Entries.{origin}
 use Rattle.network.specs.Permutations.{met}
 use Rattle.elimination.specs.Fill.{Places}
 use Rattle.elimination.specs.Plans.{rows_of, awaited_by, in_column, stored, start, stored_place}
-use Rattle.elimination.specs.Storage.{row_of, column_of}
+use Rattle.elimination.specs.Storage.{row_of}
 
 -- ---- counting
 pub counting_split : (a m n : ℕ) → range_with_len a (m + n) ≡ range_with_len a m ++ range_with_len (a + m) n
@@ -157,9 +158,9 @@ kept_same p q (suc n) same =
     (kept_more p n ∙ (λ d. kept_same p q n (λ i h. same i (omega arith)) d ++ cond (same n (omega arith) d) (n ∷ []) []) ∙ sym (kept_more q n))
 
 -- ---- the stored entries
-map_rows : (k : ℕ) (xs : List ℕ) → map row_of (map (in_column k) xs) ≡ xs
-map_rows k [] = refl
-map_rows k (x ∷ xs) = ap (λ (ys : List ℕ). x ∷ ys) (map_rows k xs)
+pub rows_in_column : (k : ℕ) (xs : List ℕ) → map row_of (map (in_column k) xs) ≡ xs
+rows_in_column k [] = refl
+rows_in_column k (x ∷ xs) = ap (λ (ys : List ℕ). x ∷ ys) (rows_in_column k xs)
 
 module _ (f : Places) (n : ℕ) where
   pub stored_more : (k : ℕ) → stored f n (k + 1) ≡ stored f n k ++ map (in_column k) (rows_of f n k)
@@ -185,74 +186,73 @@ module _ (f : Places) (n : ℕ) where
       let one = stored_splits m k below in
       omega (arith, ap length one.1 ∙ length-append (stored f n k) one.0)
 
-  pub rows_more : (k : ℕ) → map row_of (stored f n (k + 1)) ≡ map row_of (stored f n k) ++ rows_of f n k
-  rows_more k =
-      ap (map row_of) (stored_more k) ∙ map-append row_of (stored f n k) (map (in_column k) (rows_of f n k))
-      ∙ ap (λ (xs : List ℕ). map row_of (stored f n k) ++ xs) (map_rows k (rows_of f n k))
-
   -- what stands between two starts is the column
-  pub column_stands : (m k : ℕ) → k < m → take (start f n (k + 1) - start f n k) (drop (start f n k) (map row_of (stored f n m))) ≡ rows_of f n k
+  pub column_stands : (m k : ℕ) → k < m → take (start f n (k + 1) - start f n k) (drop (start f n k) (stored f n m)) ≡ map (in_column k) (rows_of f n k)
   column_stands m k below =
       let one = stored_splits m (k + 1) (omega arith) in
-      let whole : map row_of (stored f n m) ≡ map row_of (stored f n k) ++ (rows_of f n k ++ map row_of one.0) =
-      ap (map row_of) one.1 ∙ map-append row_of (stored f n (k + 1)) one.0
-      ∙ ap (λ (xs : List ℕ). xs ++ map row_of one.0) (rows_more k) ∙ append_assoc (map row_of (stored f n k)) (rows_of f n k) (map row_of one.0) in
-      let long : length (rows_of f n k) ≡ start f n (k + 1) - start f n k = omega (arith, start_more k) in
-      ap (λ (xs : List ℕ). take (start f n (k + 1) - start f n k) (drop (start f n k) xs)) whole
-      ∙ ap (take (start f n (k + 1) - start f n k)) (drop_at (map row_of (stored f n k)) _ (start f n k) (length-map (stored f n k) row_of))
-      ∙ take_at (rows_of f n k) (map row_of one.0) _ long
+      let column = map (in_column k) (rows_of f n k) in
+      let whole : stored f n m ≡ stored f n k ++ (column ++ one.0) =
+      one.1 ∙ ap (λ (xs : List Entry). xs ++ one.0) (stored_more k) ∙ append_assoc (stored f n k) column one.0 in
+      let long : length column ≡ start f n (k + 1) - start f n k = omega (arith, start_more k, length-map (rows_of f n k) (in_column k)) in
+      ap (λ (xs : List Entry). take (start f n (k + 1) - start f n k) (drop (start f n k) xs)) whole
+      ∙ ap (take (start f n (k + 1) - start f n k)) (drop_at (stored f n k) (column ++ one.0) (start f n k) refl)
+      ∙ take_at column one.0 _ long
 
-  -- the stored rows: those of the columns before k, those that k awaits, the others of k, and the rest
-  parts : (m k : ℕ) → k < m → k ≤ n → (rest : List ℕ) × (map row_of (stored f n m) ≡ map row_of (stored f n k) ++ (awaited_by f k ++ (filter (λ i. f i k) (range_with_len k (n - k)) ++ rest)))
+  -- the filled rows of column k from the diagonal on
+  abbrev others : ℕ → List ℕ
+  others k = filter (λ i. f i k) (range_with_len k (n - k))
+
+  -- the stored entries: those of the columns before k, those of k above its diagonal, the others of k, and the rest
+  parts : (m k : ℕ) → k < m → k ≤ n → (rest : List Entry) × (stored f n m ≡ stored f n k ++ (map (in_column k) (awaited_by f k) ++ (map (in_column k) (others k) ++ rest)))
   parts m k below inside =
       let one = stored_splits m (k + 1) (omega arith) in
-      let others = filter (λ i. f i k) (range_with_len k (n - k)) in (
-        map row_of one.0,
-        ap (map row_of) one.1 ∙ map-append row_of (stored f n (k + 1)) one.0
-            ∙ ap (λ (xs : List ℕ). xs ++ map row_of one.0) (rows_more k ∙ ap (λ (xs : List ℕ). map row_of (stored f n k) ++ xs) (kept_split (λ i. f i k) k n inside))
-            ∙ append_assoc (map row_of (stored f n k)) (awaited_by f k ++ others) (map row_of one.0)
-            ∙ ap (λ (xs : List ℕ). map row_of (stored f n k) ++ xs) (append_assoc (awaited_by f k) others (map row_of one.0)),
+      let above = map (in_column k) (awaited_by f k) in
+      let under = map (in_column k) (others k) in
+      let column : map (in_column k) (rows_of f n k) ≡ above ++ under =
+      ap (map (in_column k)) (kept_split (λ i. f i k) k n inside) ∙ map-append (in_column k) (awaited_by f k) (others k) in (
+        one.0,
+        one.1 ∙ ap (λ (xs : List Entry). xs ++ one.0) (stored_more k ∙ ap (λ (xs : List Entry). stored f n k ++ xs) column)
+            ∙ append_assoc (stored f n k) (above ++ under) one.0
+            ∙ ap (λ (xs : List Entry). stored f n k ++ xs) (append_assoc above under one.0),
       )
 
   -- what stands between a start and the diagonal is awaited
-  pub awaited_stands : (m k : ℕ) → k < m → k ≤ n → take (stored_place f n k k - start f n k) (drop (start f n k) (map row_of (stored f n m))) ≡ awaited_by f k
+  pub awaited_stands : (m k : ℕ) → k < m → k ≤ n → take (stored_place f n k k - start f n k) (drop (start f n k) (stored f n m)) ≡ map (in_column k) (awaited_by f k)
   awaited_stands m k below inside =
       let whole = parts m k below inside in
-      let long : length (awaited_by f k) ≡ stored_place f n k k - start f n k = omega arith in
-      ap (λ (xs : List ℕ). take (stored_place f n k k - start f n k) (drop (start f n k) xs)) whole.1
-      ∙ ap (take (stored_place f n k k - start f n k)) (drop_at (map row_of (stored f n k)) _ (start f n k) (length-map (stored f n k) row_of))
-      ∙ take_at (awaited_by f k) (filter (λ i. f i k) (range_with_len k (n - k)) ++ whole.0) _ long
+      let rest = map (in_column k) (others k) ++ whole.0 in
+      let long : length (map (in_column k) (awaited_by f k)) ≡ stored_place f n k k - start f n k = omega (arith, length-map (awaited_by f k) (in_column k)) in
+      ap (λ (xs : List Entry). take (stored_place f n k k - start f n k) (drop (start f n k) xs)) whole.1
+      ∙ ap (take (stored_place f n k k - start f n k)) (drop_at (stored f n k) (map (in_column k) (awaited_by f k) ++ rest) (start f n k) refl)
+      ∙ take_at (map (in_column k) (awaited_by f k)) rest _ long
 
   -- ---- the diagonal
-  others_long : (k : ℕ) → k ≤ n → start f n (k + 1) ≡ stored_place f n k k + length (filter (λ i. f i k) (range_with_len k (n - k)))
+  others_long : (k : ℕ) → k ≤ n → start f n (k + 1) ≡ stored_place f n k k + length (others k)
   others_long k inside =
-      let two = ap length (kept_split (λ i. f i k) k n inside) ∙ length-append (awaited_by f k) (filter (λ i. f i k) (range_with_len k (n - k))) in
+      let two = ap length (kept_split (λ i. f i k) k n inside) ∙ length-append (awaited_by f k) (others k) in
       omega (arith, start_more k, two)
 
-  others_first : (m k : ℕ) → k < m → k ≤ n → (rest : List ℕ) × (get_or (map row_of (stored f n m)) (stored_place f n k k) 0 ≡ get_or (filter (λ i. f i k) (range_with_len k (n - k)) ++ rest) 0 0)
+  others_first : (m k : ℕ) → k < m → k ≤ n → (rest : List Entry) × (get_or (stored f n m) (stored_place f n k k) origin ≡ get_or (map (in_column k) (others k) ++ rest) 0 origin)
   others_first m k below inside =
       let whole = parts m k below inside in
-      let tail = filter (λ i. f i k) (range_with_len k (n - k)) ++ whole.0 in
-      let at : start f n k + length (awaited_by f k) ≡ length (map row_of (stored f n k)) + length (awaited_by f k) = ap (λ (x : ℕ). x + length (awaited_by f k)) (sym (length-map (stored f n k) row_of)) in
-      let at2 : length (awaited_by f k) ≡ length (awaited_by f k) + 0 = omega arith in (
+      let above = map (in_column k) (awaited_by f k) in
+      let tail = map (in_column k) (others k) ++ whole.0 in
+      let at : stored_place f n k k ≡ length (stored f n k) + (length above + 0) = omega (arith, length-map (awaited_by f k) (in_column k)) in (
         whole.0,
-        ap (λ (xs : List ℕ). get_or xs (stored_place f n k k) 0) whole.1
-            ∙ ap (λ (x : ℕ). get_or (map row_of (stored f n k) ++ (awaited_by f k ++ tail)) x 0) at
-            ∙ get_or-append-add (map row_of (stored f n k)) (awaited_by f k ++ tail) (length (awaited_by f k)) 0
-            ∙ ap (λ (x : ℕ). get_or (awaited_by f k ++ tail) x 0) at2
-            ∙ get_or-append-add (awaited_by f k) tail 0 0,
+        (λ d. get_or (whole.1 d) (at d) origin)
+            ∙ get_or-append-add (stored f n k) (above ++ tail) (length above + 0) origin
+            ∙ get_or-append-add above tail 0 origin,
       )
 
   -- the column goes on at the diagonal's place with the diagonal itself, if it is filled
-  pub diagonal_stands : (m k : ℕ) → k < m → k < n → (ltb (stored_place f n k k) (start f n (k + 1)) && eqb (get_or (map row_of (stored f n m)) (stored_place f n k k) 0) k) ≡ f k k
+  pub diagonal_stands : (m k : ℕ) → k < m → k < n → (ltb (stored_place f n k k) (start f n (k + 1)) && eqb (get_or (stored f n m) (stored_place f n k k) origin).row k) ≡ f k k
   diagonal_stands m k below inside =
       let first = others_first m k below (omega arith) in
-      let others = filter (λ i. f i k) (range_with_len k (n - k)) in
       let e : n - k ≡ suc (n - (k + 1)) = omega arith in
-      let split : others ≡ cond (f k k) (k ∷ filter (λ i. f i k) (range_with_len (k + 1) (n - (k + 1)))) (filter (λ i. f i k) (range_with_len (k + 1) (n - (k + 1)))) = ap (λ (x : ℕ). filter (λ i. f i k) (range_with_len k x)) e in
-      let shift : ltb (stored_place f n k k) (start f n (k + 1)) ≡ ltb 0 (length others) = ltb_shift (stored_place f n k k) (start f n (k + 1)) (length others) (others_long k (omega arith)) in
-      (λ d. shift d && eqb (first.1 d) k)
-      ∙ ap (λ (xs : List ℕ). ltb 0 (length xs) && eqb (get_or (xs ++ first.0) 0 0) k) split
+      let split : others k ≡ cond (f k k) (k ∷ filter (λ i. f i k) (range_with_len (k + 1) (n - (k + 1)))) (filter (λ i. f i k) (range_with_len (k + 1) (n - (k + 1)))) = ap (λ (x : ℕ). filter (λ i. f i k) (range_with_len k x)) e in
+      let shift : ltb (stored_place f n k k) (start f n (k + 1)) ≡ ltb 0 (length (others k)) = ltb_shift (stored_place f n k k) (start f n (k + 1)) (length (others k)) (others_long k (omega arith)) in
+      (λ d. shift d && eqb (first.1 d).row k)
+      ∙ ap (λ (xs : List ℕ). ltb 0 (length xs) && eqb (get_or (map (in_column k) xs ++ first.0) 0 origin).row k) split
       ∙ here (f k k) (filter (λ i. f i k) (range_with_len (k + 1) (n - (k + 1)))) first.0 (kept_within (λ i. f i k) (n - (k + 1)) (k + 1))
     where
       ltb_shift : (a b c : ℕ) → b ≡ a + c → ltb a b ≡ ltb 0 c
@@ -262,30 +262,23 @@ module _ (f : Places) (n : ℕ) where
           (λ (none : c ≤ 0). le-ltb a b (omega arith) ∙ sym (le-ltb 0 c none))
           (cases_lt 0 c)
 
-      past : (xs rest : List ℕ) → All (λ i. (k + 1 ≤ i) × (i < k + 1 + (n - (k + 1))) × (f i k ≡ true)) xs → (ltb 0 (length xs) && eqb (get_or (xs ++ rest) 0 0) k) ≡ false
+      past : (xs : List ℕ) (rest : List Entry) → All (λ i. (k + 1 ≤ i) × (i < k + 1 + (n - (k + 1))) × (f i k ≡ true)) xs → (ltb 0 (length xs) && eqb (get_or (map (in_column k) xs ++ rest) 0 origin).row k) ≡ false
       past [] rest all = refl
       past (x ∷ xs) rest all =
           let low = all.0.0 in
           and_right (ltb 0 (length (x ∷ xs))) (eqb x k) (ne_eqb x k (λ same. omega arith))
 
-      here : (b : Bool) (xs rest : List ℕ) → All (λ i. (k + 1 ≤ i) × (i < k + 1 + (n - (k + 1))) × (f i k ≡ true)) xs → (ltb 0 (length (cond b (k ∷ xs) xs)) && eqb (get_or (cond b (k ∷ xs) xs ++ rest) 0 0) k) ≡ b
+      here : (b : Bool) (xs : List ℕ) (rest : List Entry) → All (λ i. (k + 1 ≤ i) × (i < k + 1 + (n - (k + 1))) × (f i k ≡ true)) xs → (ltb 0 (length (cond b (k ∷ xs) xs)) && eqb (get_or (map (in_column k) (cond b (k ∷ xs) xs) ++ rest) 0 origin).row k) ≡ b
       here true xs rest all = and_from (ltb 0 (length (k ∷ xs))) (eqb k k) (lt-ltb 0 (length (k ∷ xs)) (omega arith)) (eq-eqb k k refl)
       here false xs rest all = past xs rest all
 
-  pub awaited_few : (k : ℕ) → k ≤ n → length (awaited_by f k) ≤ length (rows_of f n k)
-  awaited_few k inside =
-      omega (arith, ap length (kept_split (λ i. f i k) k n inside) ∙ length-append (awaited_by f k) (filter (λ i. f i k) (range_with_len k (n - k))))
+  -- a place of column k is at most that at which it ends
+  pub place_within : (i k : ℕ) → i ≤ n → stored_place f n i k ≤ start f n (k + 1)
+  place_within i k inside =
+      let two = ap length (kept_split (λ r. f r k) i n inside) ∙ length-append (filter (λ r. f r k) (range_with_len 0 i)) (filter (λ r. f r k) (range_with_len i (n - i))) in
+      omega (arith, start_more k, two)
 
   pub row_below : (k t : ℕ) → t < length (rows_of f n k) → (get_or (rows_of f n k) t 0 < n) × (f (get_or (rows_of f n k) t 0) k ≡ true)
   row_below k t h =
       let all = All-get_or (λ i. (0 ≤ i) × (i < 0 + n) × (f i k ≡ true)) (rows_of f n k) t 0 h (kept_within (λ i. f i k) n 0) in
       (omega (arith, all.1), all.2)
-
-  map_columns : (k : ℕ) (xs : List ℕ) → map column_of (map (in_column k) xs) ≡ map (λ _. k) xs
-  map_columns k [] = refl
-  map_columns k (x ∷ xs) = ap (λ (ys : List ℕ). k ∷ ys) (map_columns k xs)
-
-  pub columns_more : (k : ℕ) → map column_of (stored f n (k + 1)) ≡ map column_of (stored f n k) ++ map (λ _. k) (rows_of f n k)
-  columns_more k =
-      ap (map column_of) (stored_more k) ∙ map-append column_of (stored f n k) (map (in_column k) (rows_of f n k))
-      ∙ ap (λ (xs : List ℕ). map column_of (stored f n k) ++ xs) (map_columns k (rows_of f n k))

@@ -1,8 +1,7 @@
 -- The marks of column k, as it takes up the columns that it awaits. Assumes nothing.
-use Rattle.std.proofs.Common.{◌≡◌, ℕ, suc, ◌+◌, ◌*◌, ◌<◌, Bool, true, false, ◌&&◌, ◌||◌, ltb, List, map, length, get_or, sym, ap, ◌∙◌, subst, inr, add-one, arith}
-use Rattle.std.specs.List.{range_with_len}
+use Rattle.std.proofs.Common.{◌≡◌, ℕ, suc, ◌+◌, ◌<◌, Bool, true, false, ◌&&◌, ◌||◌, ltb, List, length, get_or, sym, ap, ◌∙◌, subst, inr, add-one, arith}
 use Rattle.std.proofs.lemmas.List.FromFn.{get_or-map-range_with_len, fill_by_all}
-use Rattle.std.proofs.lemmas.Bool.{lt-ltb, and_from}
+use Rattle.std.proofs.lemmas.Bool.{lt-ltb}
 use Rattle.network.specs.Permutations.{met}
 use Rattle.elimination.specs.Fill.{filled}
 use Rattle.elimination.specs.Plans.{rows_of}
@@ -11,15 +10,16 @@ use Rattle.elimination.proofs.Storing.{met_kept}
 use Rattle.symbolic.specs.Tables.{tabled, filled_from, marks_in}
 use Rattle.symbolic.proofs.Spreading.{Spread}
 
-module _ (table : List Bool) (n k : ℕ) (inside : k < n) where
-  -- the columns below j were taken up
-  abbrev pub Taken : ℕ → List Bool → Type 0
-  Taken j marks = (i : ℕ) → i < n → get_or marks i false ≡ filled (tabled table n) j i k
+-- the marks of column k when the columns below j were taken up
+abbrev pub TakenUp : List Bool → ℕ → ℕ → ℕ → List Bool → Type 0
+TakenUp table n k j marks = (i : ℕ) → i < n → get_or marks i false ≡ filled (tabled table n) j i k
 
-  pub taken_none : (marks : List Bool) → marks ≡ map (λ i. get_or table (i * n + k) false) (range_with_len 0 n) → Taken 0 marks
-  taken_none marks is i h =
-      ap (λ (xs : List Bool). get_or xs i false) is ∙ get_or-map-range_with_len (λ i. get_or table (i * n + k) false) 0 n i i false h (omega arith)
-      ∙ ap (λ (b : Bool). b && get_or table (i * n + k) false) (sym (and_from (ltb i n) (ltb k n) (lt-ltb i n h) (lt-ltb k n inside)))
+module _ (table : List Bool) (n k : ℕ) (inside : k < n) where
+  abbrev Taken : ℕ → List Bool → Type 0
+  Taken = TakenUp table n k
+
+  pub taken_none : (marks : List Bool) → marks ≡ marks_in (tabled table n) n k → Taken 0 marks
+  taken_none marks is i h = ap (λ (xs : List Bool). get_or xs i false) is ∙ get_or-map-range_with_len (λ r. tabled table n r k) 0 n i i false h (omega arith)
 
   next : (j : ℕ) (marks : List Bool) → ((i : ℕ) → i < n → get_or marks i false ≡ filled (tabled table n) (suc j) i k) → Taken (j + 1) marks
   next j marks = subst (λ (m : ℕ). (i : ℕ) → i < n → get_or marks i false ≡ filled (tabled table n) m i k) (sym (add-one j))
@@ -41,7 +41,3 @@ module _ (table : List Bool) (n k : ℕ) (inside : k < n) where
   taken_all marks long all =
       fill_by_all (λ i. filled_from table n i k) marks n false long
       (λ i h. all i h ∙ sym (settled_to (tabled table n) n k i k (omega arith) (inr (omega arith))))
-
--- what lasts from turn to turn
-abbrev pub Turn : List Bool → ℕ → ℕ → ℕ → List Bool → Type 0
-Turn table k j n marks = (length marks ≡ n) × ((i : ℕ) → i < n → get_or marks i false ≡ filled (tabled table n) j i k)

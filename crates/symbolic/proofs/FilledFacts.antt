@@ -1,74 +1,71 @@
--- A filled pattern that holds all columns: what may be read of it, and what that is. Assumes nothing.
-use Rattle.std.proofs.Common.{◌≡◌, ℕ, ◌+◌, ◌-◌, ◌<◌, ◌≤◌, ◌&&◌, eqb, ltb, List, length, get_or, take, drop, vec_items, vec_len, sym, ap, ◌∙◌, subst, arith}
+-- A filled pattern of n columns that holds those below m: what is read of column k. Assumes nothing.
+use Rattle.std.proofs.Common.{◌≡◌, ℕ, ◌<◌, ◌≤◌, ◌&&◌, Bool, eqb, ltb, List, map, length, get_or, vec_items, vec_len, sym, ap, ◌∙◌, arith}
+use Rattle.std.specs.List.{All, HoldsAt, slice_range}
 use Rattle.std.proofs.lemmas.List.FromFn.{get_or-map-range_with_len, length-map-range_with_len}
+use Rattle.std.proofs.lemmas.List.{get_or-map, length-map}
+use Rattle.network.specs.declared.entries.Entry.{Entry}
+use Rattle.network.specs.Entries.{origin}
 use Rattle.elimination.specs.Fill.{Places}
-use Rattle.elimination.specs.Plans.{rows_of, awaited_by, start, stored_place}
+use Rattle.elimination.specs.Plans.{rows_of, awaited_by, in_column, start}
+use Rattle.elimination.specs.Storage.{Bounds, bounds_of, row_of}
 use Rattle.elimination.proofs.Awaited.{awaited_law}
-use Rattle.elimination.proofs.Storing.{start_more, start_rises, awaited_stands, awaited_few, diagonal_stands}
+use Rattle.elimination.proofs.Storing.{awaited_stands, column_stands, diagonal_stands, row_below, rows_in_column}
+use Rattle.symbolic.specs.Columns.{bounds}
+use Rattle.symbolic.specs.declared.matrices.FilledMatrix.{FilledMatrix}
+use Rattle.symbolic.specs.declared.patterns.Column.{Column}
 use Rattle.symbolic.specs.declared.patterns.Filled.{Filled}
-use Rattle.symbolic.specs.Filling.{Holds}
-use Rattle.symbolic.proofs.StoredColumns as stored_columns
+use Rattle.symbolic.specs.Filling.{filled_of, Holds}
 
-module _ (f : Places) (n : ℕ) (x : Filled) (h : Holds f n n x) where
-  abbrev starts : List ℕ
-  starts = vec_items x.starts
+-- what a look past the last column gives
+pub nowhere : Column
+nowhere = record { start = 0; diagonal = 0; end = 0; above = omega arith; below = omega arith }
 
-  abbrev diagonals : List ℕ
-  diagonals = vec_items x.diagonals
+module _ (f : Places) (n m : ℕ) (x : Filled) (h : Holds f n m x) where
+  pub columns_long : vec_len x.columns ≡ m
+  columns_long =
+      x.columns.ok.0 ∙ sym (length-map (vec_items x.columns) bounds) ∙ ap length h.columns_are ∙ length-map-range_with_len (bounds_of f n) 0 m
 
-  abbrev rows : List ℕ
-  rows = vec_items x.rows
+  pub entries_long : vec_len x.entries ≡ start f n m
+  entries_long = x.entries.ok.0 ∙ ap length h.entries_are
 
-  pub starts_long : vec_len x.starts ≡ n + 1
-  starts_long = x.starts.ok.0 ∙ stored_columns.starts_long f n n starts rows h.starts_are h.rows_are
+  module _ (k : ℕ) (inside : k < m) where
+    pub bounds_at : (d : Column) → bounds (get_or (vec_items x.columns) k d) ≡ bounds_of f n k
+    bounds_at d =
+        let below : k < length (vec_items x.columns) = omega (arith, columns_long, x.columns.ok.0) in
+        sym (get_or-map bounds (vec_items x.columns) k d (bounds d) below)
+        ∙ ap (λ (bs : List Bounds). get_or bs k (bounds d)) h.columns_are
+        ∙ get_or-map-range_with_len (bounds_of f n) 0 m k k (bounds d) inside (omega arith)
 
-  pub diagonals_long : vec_len x.diagonals ≡ n
-  diagonals_long = x.diagonals.ok.0 ∙ ap length h.diagonals_are ∙ length-map-range_with_len (λ j. stored_place f n j j) 0 n
+    pub column_is : (xs : List Entry) → HoldsAt (λ column. xs ≡ slice_range (vec_items x.entries) column.start column.end) (vec_items x.columns) k → xs ≡ map (in_column k) (rows_of f n k)
+    column_is xs is = is nowhere ∙ (λ d. slice_range (h.entries_are d) (bounds_at nowhere d).start (bounds_at nowhere d).end) ∙ column_stands f n m k inside
 
-  pub rows_long : vec_len x.rows ≡ start f n n
-  rows_long = x.rows.ok.0 ∙ stored_columns.rows_long f n n starts rows h.starts_are h.rows_are
+    pub awaited_is : k ≤ n → (xs : List Entry) → HoldsAt (λ column. xs ≡ slice_range (vec_items x.entries) column.start column.diagonal) (vec_items x.columns) k → xs ≡ map (in_column k) (awaited_by f k)
+    awaited_is within xs is = is nowhere ∙ (λ d. slice_range (h.entries_are d) (bounds_at nowhere d).start (bounds_at nowhere d).diagonal) ∙ awaited_stands f n m k inside within
 
-  pub start_at : (k : ℕ) → k ≤ n → get_or starts k 0 ≡ start f n k
-  start_at k inside = stored_columns.start_at f n n starts rows h.starts_are h.rows_are k inside
+    pub diagonal_is : k < n → (b : Bool) → HoldsAt (λ column. b ≡ (ltb column.diagonal column.end && eqb (get_or (vec_items x.entries) column.diagonal origin).row k)) (vec_items x.columns) k → b ≡ f k k
+    diagonal_is within b is =
+        is nowhere ∙ (λ d. ltb (bounds_at nowhere d).diagonal (bounds_at nowhere d).end && eqb (get_or (h.entries_are d) (bounds_at nowhere d).diagonal origin).row k)
+        ∙ diagonal_stands f n m k inside within
 
-  pub diagonal_at : (k : ℕ) → k < n → get_or diagonals k 0 ≡ stored_place f n k k
-  diagonal_at k inside = ap (λ (xs : List ℕ). get_or xs k 0) h.diagonals_are ∙ get_or-map-range_with_len (λ j. stored_place f n j j) 0 n k k 0 inside (omega arith)
+-- ---- the rows of entries that stand in one column
+module _ (k : ℕ) (xs : List Entry) (rows : List ℕ) (is : xs ≡ map (in_column k) rows) where
+  pub rows_are : map row_of xs ≡ rows
+  rows_are = ap (map row_of) is ∙ rows_in_column k rows
 
-  -- ---- a column
-  pub column_begins : (k : ℕ) → k < n → k + 1 < vec_len x.starts
-  column_begins k inside = omega (arith, starts_long)
+  pub rows_inside : (size : ℕ) → ((t : ℕ) → t < length rows → get_or rows t 0 < size) → All (λ entry. entry.row < size) xs
+  rows_inside size inside t d below =
+      let row : get_or (map row_of xs) t 0 ≡ (get_or xs t d).row = get_or-map row_of xs t d 0 below in
+      let same : get_or (map row_of xs) t 0 ≡ get_or rows t 0 = ap (λ (ys : List ℕ). get_or ys t 0) rows_are in
+      omega (arith, row, same, inside t (omega (arith, ap length rows_are, length-map xs row_of)))
 
-  pub column_rises : (k : ℕ) → k < n → get_or starts k 0 ≤ get_or starts (k + 1) 0
-  column_rises k inside = stored_columns.rising f n n starts rows h.starts_are h.rows_are k inside
-
-  pub column_ends : (k : ℕ) → k < n → get_or starts (k + 1) 0 ≤ vec_len x.rows
-  column_ends k inside = omega (arith, stored_columns.within f n n starts rows h.starts_are h.rows_are k inside, x.rows.ok.0)
-
-  pub column_is : (k : ℕ) → k < n → take (get_or starts (k + 1) 0 - get_or starts k 0) (drop (get_or starts k 0) rows) ≡ rows_of f n k
-  column_is k inside = stored_columns.column_is f n n starts rows h.starts_are h.rows_are k inside
-
-  -- ---- what it awaits
-  pub awaited_begins : (k : ℕ) → k < n → (k < vec_len x.starts) × (k < vec_len x.diagonals)
-  awaited_begins k inside = (omega (arith, starts_long), omega (arith, diagonals_long))
-
-  pub awaited_rises : (k : ℕ) → k < n → get_or starts k 0 ≤ get_or diagonals k 0
-  awaited_rises k inside = omega (arith, start_at k (omega arith), diagonal_at k inside)
-
-  pub awaited_ends : (k : ℕ) → k < n → get_or diagonals k 0 ≤ vec_len x.rows
-  awaited_ends k inside =
-      omega (arith, diagonal_at k inside, rows_long, awaited_few f n k (omega arith), start_more f n k, start_rises f n n (k + 1) (omega arith))
-
-  pub awaited_is : (k : ℕ) → k < n → take (get_or diagonals k 0 - get_or starts k 0) (drop (get_or starts k 0) rows) ≡ awaited_by f k
-  awaited_is k inside =
-      (λ d. take (diagonal_at k inside d - start_at k (omega arith) d) (drop (start_at k (omega arith) d) (h.rows_are d)))
-      ∙ awaited_stands f n n k inside (omega arith)
-
-  -- ---- its diagonal
-  pub diagonal_is : (k : ℕ) → k < n → (ltb (get_or diagonals k 0) (get_or starts (k + 1) 0) && eqb (get_or rows (get_or diagonals k 0) 0) k) ≡ f k k
-  diagonal_is k inside =
-      (λ d. ltb (diagonal_at k inside d) (start_at (k + 1) (omega arith) d) && eqb (get_or (h.rows_are d) (diagonal_at k inside d) 0) k)
-      ∙ diagonal_stands f n n k inside inside
+-- the rows of a column lie inside
+pub column_inside : (f : Places) (n k : ℕ) (xs : List Entry) → xs ≡ map (in_column k) (rows_of f n k) → All (λ entry. entry.row < n) xs
+column_inside f n k xs is = rows_inside k xs (rows_of f n k) is n (λ t below. (row_below f n k t below).0)
 
 -- awaited columns are smaller
-pub awaited_below : (f : Places) (k : ℕ) (xs : List ℕ) → xs ≡ awaited_by f k → (t : ℕ) → t < length xs → get_or xs t 0 < k
-awaited_below f k xs is = subst (λ (ys : List ℕ). (t : ℕ) → t < length ys → get_or ys t 0 < k) (sym is) (λ t h. ((awaited_law f k).only t h).0)
+pub awaited_inside : (f : Places) (k : ℕ) (xs : List Entry) → xs ≡ map (in_column k) (awaited_by f k) → All (λ entry. entry.row < k) xs
+awaited_inside f k xs is = rows_inside k xs (awaited_by f k) is k (λ t below. ((awaited_law f k).only t below).0)
+
+-- ---- a matrix with its filled pattern
+pub columns_all : (x : FilledMatrix) → vec_len x.filled.columns ≡ x.matrix.now.network.n
+columns_all x = columns_long (filled_of x.matrix.now) x.matrix.now.network.n x.matrix.now.network.n x.filled x.holds

@@ -1,7 +1,7 @@
 pub mod AddedColumn
 pub mod ColumnFill
+pub mod Counting
 pub mod FilledFacts
-pub mod LentNetwork
 pub mod Limits
+pub mod PlacedEntries
 pub mod Spreading
-pub mod StoredColumns

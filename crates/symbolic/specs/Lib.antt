@@ -1,3 +1,4 @@
+pub mod Columns
 pub mod Filling
 pub mod Tables
 pub mod Trying

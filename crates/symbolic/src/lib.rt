@@ -3,5 +3,6 @@
 
 mod fills;
 mod levels;
+mod matrices;
 mod patterns;
-mod places;
+mod tables;

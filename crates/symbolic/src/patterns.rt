@@ -1,52 +1,114 @@
 // The filled pattern, stored column after column.
-ghost use Rattle.std.specs.Prelude.{◌≡◌, ◌+◌, ◌-◌, ◌<◌, ◌≤◌, ◌&&◌, length, take, drop, vec_len, ◌==◌, nat_lt, slice_index, slice_range};
+ghost use Rattle.std.specs.Prelude.{◌≡◌, ℕ, ◌+◌, ◌<◌, ◌≤◌, false, ◌&&◌, ◌++◌, map, length, filter, vec_len, ◌==◌, nat_lt, All, OnOk, take, slice_index_or, slice_range};
+ghost use Rattle.std.specs.List.{range_with_len, HoldsAt};
+ghost use Rattle.network.specs.Entries.{origin};
+ghost use Rattle.elimination.specs.Fill.{Places};
+ghost use Rattle.elimination.specs.Plans.{in_column};
+ghost use Rattle.symbolic.specs.Tables.{marks_in};
 
-#[derive(Drop)]
-pub struct Filled {
-    // the place at which each column begins, and the one at which the last ends
-    pub(crate) starts: Vec<usize>,
-    // the place of each diagonal
-    pub(crate) diagonals: Vec<usize>,
-    // of each filled entry, its row and its column
-    pub(crate) rows: Vec<u16>,
-    pub(crate) columns: Vec<u16>,
+use network::Entry;
+use std::alloc::{AllocError, Global};
+
+// Where a column stands among the filled entries.
+#[derive(Clone, Copy)]
+pub(crate) struct Column {
+    pub(crate) start: usize,
+    // the place of its diagonal, filled or not
+    diagonal: usize,
+    end: usize,
+    ghost above: { start ≤ diagonal },
+    ghost below: { diagonal ≤ end },
 }
 
-fn between(rows: &[u16], from: usize, to: usize) -> &[u16]
-    requires { (from ≤ to) × (to ≤ length rows.now) }
-    ensures { result.now ≡ slice_range rows.now from to }
+#[derive(Drop)]
+pub(crate) struct Filled {
+    // the filled entries, by column, then by row
+    pub(crate) entries: Vec<Entry>,
+    pub(crate) columns: Vec<Column>,
+    ghost inside: { All (λ column. column.end ≤ vec_len entries) columns.items },
+}
+
+// How many rows are marked.
+fn count_marked(marks: &[bool]) -> usize
+    ensures { result ≡ length (filter (λ marked. marked) marks.now) }
 {
-    &rows[from..to]
+    marks.iter().filter(|marked| **marked).count()
+}
+
+// Adds the marked rows of column k.
+fn gather(entries: &mut Vec<Entry>, marks: &[bool], k: u16) -> Result<(), AllocError>
+    requires { length marks.now ≤ 512 }
+    ensures items { OnOk result (entries.new.items ≡ entries.old.items ++ map (in_column k) (filter (λ i. slice_index_or marks.now i false) (range_with_len 0 (length marks.now)))) }
+    ensures grows { vec_len entries.old ≤ vec_len entries.new }
+{
+    for (i, marked) in marks.iter().enumerate() {
+        if *marked {
+            entries.push(Entry {
+                row: i as u16,
+                column: k,
+            })?;
+        }
+    }
+    Ok(())
 }
 
 impl Filled {
-    // The filled rows of column k.
-    pub(crate) fn column(&self, k: usize) -> &[u16]
-        requires begins { k + 1 < vec_len self.now.starts }
-        requires rising { slice_index self.now.starts.items k ≤ slice_index self.now.starts.items (k + 1) }
-        requires inside { slice_index self.now.starts.items (k + 1) ≤ vec_len self.now.rows }
-        ensures { result.now ≡ take (slice_index self.now.starts.items (k + 1) - slice_index self.now.starts.items k) (drop (slice_index self.now.starts.items k) self.now.rows.items) }
+    ghost use Rattle.symbolic.specs.Filling.{Holds};
+
+    // With no column.
+    pub(crate) fn new(heap: Global) -> Filled
+        ensures { (f : Places) (n : ℕ) → Holds f n 0 result }
     {
-        between(&self.rows, self.starts[k], self.starts[k + 1])
+        Filled {
+            entries: Vec::new(heap),
+            columns: Vec::new(heap),
+        }
     }
 
-    // The columns that column k awaits.
-    pub(crate) fn awaited(&self, k: usize) -> &[u16]
-        requires begins { (k < vec_len self.now.starts) × (k < vec_len self.now.diagonals) }
-        requires rising { slice_index self.now.starts.items k ≤ slice_index self.now.diagonals.items k }
-        requires inside { slice_index self.now.diagonals.items k ≤ vec_len self.now.rows }
-        ensures { result.now ≡ take (slice_index self.now.diagonals.items k - slice_index self.now.starts.items k) (drop (slice_index self.now.starts.items k) self.now.rows.items) }
+    // Adds column k, whose filled rows are marked.
+    pub(crate) fn add_column(&mut self, marks: &[bool], k: usize) -> Result<(), AllocError>
+        requires few { length marks.now ≤ 512 }
+        requires inside { k < length marks.now }
+        ensures { OnOk result ((f : Places) (n : ℕ) → marks.now ≡ marks_in f n k → Holds f n k self.old → Holds f n (k + 1) self.new) }
     {
-        between(&self.rows, self.starts[k], self.diagonals[k])
+        let start = self.entries.len();
+        gather(&mut self.entries, marks, k as u16)?;
+        self.columns.push(Column {
+            start,
+            diagonal: start + count_marked(&marks[..k]),
+            end: self.entries.len(),
+        })?;
+        Ok(())
+    }
+
+    // The filled entries of column k.
+    pub(crate) fn column(&self, k: usize) -> &[Entry]
+        requires { k < vec_len self.now.columns }
+        ensures { HoldsAt (λ column. result.now ≡ slice_range self.now.entries.items column.start column.end) self.now.columns.items k }
+    {
+        let Column { start, end, .. } = self.columns[k];
+        &self.entries[start..end]
+    }
+
+    // Those above its diagonal: the columns that it awaits are their rows.
+    pub(crate) fn awaited(&self, k: usize) -> &[Entry]
+        requires { k < vec_len self.now.columns }
+        ensures { HoldsAt (λ column. result.now ≡ slice_range self.now.entries.items column.start column.diagonal) self.now.columns.items k }
+    {
+        let Column {
+            start,
+            diagonal,
+            ..
+        } = self.columns[k];
+        &self.entries[start..diagonal]
     }
 
     // Whether the diagonal place of column k is filled: the column goes on there with its own number.
     pub(crate) fn has_diagonal(&self, k: usize) -> bool
-        requires begins { (k < vec_len self.now.diagonals) × (k + 1 < vec_len self.now.starts) }
-        requires inside { slice_index self.now.starts.items (k + 1) ≤ vec_len self.now.rows }
-        ensures { result ≡ (nat_lt (slice_index self.now.diagonals.items k) (slice_index self.now.starts.items (k + 1)) && slice_index self.now.rows.items (slice_index self.now.diagonals.items k) == k) }
+        requires { k < vec_len self.now.columns }
+        ensures { HoldsAt (λ column. result ≡ (nat_lt column.diagonal column.end && (slice_index_or self.now.entries.items column.diagonal origin).row == k)) self.now.columns.items k }
     {
-        let place = self.diagonals[k];
-        place < self.starts[k + 1] && self.rows[place] as usize == k
+        let Column { diagonal, end, .. } = self.columns[k];
+        diagonal < end && usize::from(self.entries[diagonal].row) == k
     }
 }

@@ -7,6 +7,10 @@ use Rattle.symbolic.proofs.fills.fill.Given as goal
 
 abbrev pub invariant-loop-k : goal.invariant-loop-k
 invariant-loop-k l =
-    Holds (filled_from l.table l.n) l.n l.k l.filled
-    × (vec_len l.marks ≡ l.n)
-    × (each_from (limit_verdict (filled_from l.table l.n) l.n) l.k (l.n - l.k) ≡ limit_checked (filled_from l.table l.n) l.n)
+    let n = l.table.n in
+    let f = filled_from l.table.marks.now n in
+    record {
+      holds : Holds f n l.k l.filled;
+      long : vec_len l.marks ≡ n;
+      left : each_from (limit_verdict f n) l.k (n - l.k) ≡ limit_checked f n;
+    }

@@ -1,6 +1,5 @@
-use Rattle.std.proofs.Common.{length}
-use Rattle.symbolic.proofs.ColumnFill.{Turn}
+use Rattle.symbolic.proofs.ColumnFill.{TakenUp}
 use Rattle.symbolic.proofs.fills.fill_column.Given as goal
 
 abbrev pub invariant-loop-j : goal.invariant-loop-j
-invariant-loop-j l = Turn l.table l.k l.j (length l.initial.marks) l.marks
+invariant-loop-j l = TakenUp l.table.marks.now l.table.n l.k l.j l.marks

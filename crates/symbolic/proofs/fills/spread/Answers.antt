@@ -1,21 +1,29 @@
-use Rattle.std.proofs.Common.{ℕ, Bool, false, ◌&&◌, ◌||◌, ltb, List, get_or, refl, ap, ◌∙◌, arith}
-use Rattle.std.proofs.lemmas.List.{take_all}
+use Rattle.std.proofs.Common.{◌≡◌, ℕ, ◌<◌, false, ◌&&◌, ◌||◌, ltb, List, map, length, get_or, sym, ap, ◌∙◌, arith}
+use Rattle.std.proofs.lemmas.List.{take_all, get_or-map, length-map}
+use Rattle.network.specs.Entries.{origin}
 use Rattle.network.specs.Permutations.{met}
+use Rattle.elimination.specs.Storage.{row_of}
 use Rattle.symbolic.proofs.Spreading.{spread_none, spread_marks, spread_skips}
 use Rattle.symbolic.proofs.fills.spread.Goals as goal
 use Rattle.symbolic.proofs.fills.spread.Goals.{then-i-j, else-i-j}
 
-pub loop-row-init : goal.loop-row-init
-loop-row-init c = λ i h. spread_none c.args.j c.args.marks.now i
+pub loop-entry-init : goal.loop-entry-init
+loop-entry-init c = λ i h. spread_none c.args.j c.args.marks.now i
 
-pub loop-row-preserved : goal.loop-row-preserved
-loop-row-preserved c =
-    let x = get_or c.args.rows.now c.loop-row.row-index 0 in
+pub loop-entry-preserved : goal.loop-entry-preserved
+loop-entry-preserved c =
+    let column = c.args.column.now in
+    let t = c.loop-entry.entry-index in
+    let more : t < length (map row_of column) = omega (arith, length-map column row_of) in
+    let row : c.from-i.result ≡ get_or (map row_of column) t 0 = c.from-i.ensures ∙ sym (get_or-map row_of column t origin 0 c.loop-entry-test.true) in
+    let inside : c.from-i.result < length c.loop-entry.marks = omega (arith, c.from-i.ensures, c.requires t origin c.loop-entry-test.true) in
     elim c.if-i-j.branch [
-      | then-i-j w ↦ λ i h. ap (λ (m : List Bool). get_or m i false) w.marks-is ∙ spread_marks c.args.j c.args.rows.now c.args.marks.now c.loop-row.marks c.loop-row.row-index x c.loop-row-test.true refl c.loop-row.invariant w.if-i-j.true (omega (arith, c.requires c.loop-row.row-index c.loop-row-test.true)) i h
-      | else-i-j w ↦ λ i h. ap (λ (m : List Bool). get_or m i false) w.marks-is ∙ spread_skips c.args.j c.args.rows.now c.args.marks.now c.loop-row.marks c.loop-row.row-index x c.loop-row-test.true refl c.loop-row.invariant w.if-i-j.false i h
+      | then-i-j w ↦ rw w.marks-is (spread_marks c.args.j (map row_of column) c.args.marks.now c.loop-entry.marks t c.from-i.result more row c.loop-entry.invariant w.if-i-j.true inside)
+      | else-i-j w ↦ rw w.marks-is (spread_skips c.args.j (map row_of column) c.args.marks.now c.loop-entry.marks t c.from-i.result more row c.loop-entry.invariant w.if-i-j.false)
     ]
 
 pub returns : goal.returns
 returns c =
-    λ i h. c.loop-row.invariant i h ∙ ap (λ (xs : List ℕ). get_or c.args.marks.now i false || (ltb c.args.j i && met i xs)) (take_all _ _ c.loop-row-test.false)
+    let column = c.args.column.now in
+    let all = take_all c.loop-entry.entry-index (map row_of column) (omega (arith, length-map column row_of)) in
+    λ i h. c.loop-entry.invariant i h ∙ ap (λ (xs : List ℕ). get_or c.args.marks.now i false || (ltb c.args.j i && met i xs)) all

@@ -1,6 +1,7 @@
-use Rattle.std.proofs.Common.{◌≡◌, ℕ, ◌<◌, false, ◌&&◌, ◌||◌, ltb, length, get_or, take}
-use Rattle.network.specs.Permutations.{met}
+use Rattle.std.proofs.Common.{map, take}
+use Rattle.elimination.specs.Storage.{row_of}
+use Rattle.symbolic.proofs.Spreading.{Spread}
 use Rattle.symbolic.proofs.fills.spread.Given as goal
 
-abbrev pub invariant-loop-row : goal.invariant-loop-row
-invariant-loop-row l = (i : ℕ) → i < length l.initial.marks → get_or l.marks i false ≡ (get_or l.initial.marks i false || (ltb l.j i && met i (take l.row-index l.rows)))
+abbrev pub invariant-loop-entry : goal.invariant-loop-entry
+invariant-loop-entry l = Spread l.j (take l.entry-index (map row_of l.column)) l.initial.marks l.marks

@@ -1,20 +1,12 @@
-use Rattle.std.proofs.Common.{ℕ, ◌+◌, Bool, eqb, length, get_or, sym, ap, ◌∙◌, arith}
-use Rattle.std.proofs.lemmas.List.{length_push}
-use Rattle.std.proofs.lemmas.Bool.{eq-eqb, ne_eqb}
-use Rattle.elimination.proofs.Storing.{kept_more_yes, kept_more_no}
+use Rattle.std.proofs.Common.{eqb, ◌∙◌, rules, tests}
+use Rattle.std.proofs.lemmas.Iterator.{YieldsList-from_slice}
+use Rattle.std.proofs.lemmas.Iterator.Consumers.{YieldsList-from_filter, count_from_yields_List}
+use Rattle.symbolic.proofs.Counting.{length-filter_places}
 use Rattle.symbolic.proofs.levels.width.Goals as goal
-use Rattle.symbolic.proofs.levels.width.Goals.{then-levels-k, else-levels-k}
 
-pub loop-k-preserved : goal.loop-k-preserved
-loop-k-preserved c =
-    let p : ℕ → Bool = λ k. eqb (get_or c.args.levels.now k 0) c.args.level in
-    elim c.if-levels-k.branch [
-      | then-levels-k w ↦
-          let more = kept_more_yes p c.loop-k.k (eq-eqb _ _ w.if-levels-k.true) in (
-            w.columns-is ∙ ap (λ (x : ℕ). x + 1) c.loop-k.invariant.0 ∙ sym (ap length more ∙ length_push _ c.loop-k.k),
-            omega (arith, w.columns-is, c.loop-k.invariant.1),
-          )
-      | else-levels-k w ↦
-          let same = kept_more_no p c.loop-k.k (ne_eqb _ _ w.if-levels-k.false) in
-          (w.columns-is ∙ c.loop-k.invariant.0 ∙ sym (ap length same), omega (arith, w.columns-is, c.loop-k.invariant.1))
-    ]
+pub returns : goal.returns
+returns c =
+    let levels = c.args.levels.now in
+    let level = c.args.level in
+    count_from_yields_List c.filter.result _ c.count.ensures.ran (YieldsList-from_filter _ (λ l. eqb l level) (YieldsList-from_slice levels cc) c.filter.ensures.closure (λ x b q k. search (rules, tests)))
+    ∙ length-filter_places (λ l. eqb l level) levels 0

@@ -1,7 +1,7 @@
 use Rattle.std.proofs.Common.{◌≡◌, vec_items}
 use Rattle.elimination.specs.Plans.{levels_of}
 use Rattle.symbolic.specs.Filling.{filled_of}
-use Rattle.symbolic.proofs.levels.find_levels.Given as goal
+use Rattle.symbolic.proofs.matrices.FilledMatrix.find_levels.Given as goal
 
 abbrev pub invariant-loop-k : goal.invariant-loop-k
-invariant-loop-k l = vec_items l.levels ≡ levels_of (filled_of l.matrix) l.k
+invariant-loop-k l = vec_items l.levels ≡ levels_of (filled_of l.self.matrix.now) l.k

@@ -2,7 +2,10 @@ use Rattle.std.proofs.Common.{◌≡◌, ◌-◌}
 use Rattle.elimination.specs.Plans.{diagonal_verdict, diagonals_checked}
 use Rattle.refusals.specs.Checks.{each_from}
 use Rattle.symbolic.specs.Filling.{filled_of}
-use Rattle.symbolic.proofs.places.check_diagonals.Given as goal
+use Rattle.symbolic.proofs.matrices.FilledMatrix.check_diagonals.Given as goal
 
 abbrev pub invariant-loop-k : goal.invariant-loop-k
-invariant-loop-k l = each_from (diagonal_verdict (filled_of l.matrix)) l.k (l.matrix.network.n - l.k) ≡ diagonals_checked (filled_of l.matrix) l.matrix.network.n
+invariant-loop-k l =
+    let n = l.self.matrix.now.network.n in
+    let f = filled_of l.self.matrix.now in
+    each_from (diagonal_verdict f) l.k (n - l.k) ≡ diagonals_checked f n

@@ -1,0 +1,44 @@
+use Rattle.std.proofs.Common.{◌≡◌, ℕ, ◌+◌, ◌≤◌, Bool, false, List, ◌++◌, map, length, get_or, take, vec_items, filter, ap, ◌∙◌, arith}
+use Rattle.std.specs.List.{range_with_len}
+use Rattle.std.proofs.lemmas.List.{length-append, length-map}
+use Rattle.network.specs.declared.entries.Entry.{Entry}
+use Rattle.elimination.specs.Plans.{in_column}
+use Rattle.symbolic.proofs.AddedColumn.{added}
+use Rattle.symbolic.proofs.Counting.{length-filter-take, length-filter_places}
+use Rattle.symbolic.proofs.patterns.Filled.add_column.Goals as goal
+
+-- the rows above the diagonal are among those that were added
+within : (old entries : List Entry) (marks : List Bool) (k : ℕ) → entries ≡ old ++ map (in_column k) (filter (λ i. get_or marks i false) (range_with_len 0 (length marks))) → length old + length (filter (λ marked. marked) (take k marks)) ≤ length entries
+within old entries marks k is =
+    let rows = filter (λ i. get_or marks i false) (range_with_len 0 (length marks)) in
+    omega (arith, ap length is ∙ length-append old (map (in_column k) rows), length-map rows (in_column k), length-filter_places (λ marked. marked) marks false, length-filter-take (λ marked. marked) k marks)
+
+pub overflow_add-start : goal.overflow_add-start
+overflow_add-start c =
+    let old = c.args.self.now.entries in
+    let entries = c.gather.new.entries in
+    omega (arith, within (vec_items old) (vec_items entries) c.args.marks.now c.args.k c.in_ok-gather.ensures.items, c.len-start.ensures, c.count_marked.ensures, old.ok.0, entries.ok.0, entries.small)
+
+pub invariant_of-push : goal.invariant_of-push
+invariant_of-push c =
+    let old = c.args.self.now.entries in
+    let entries = c.gather.new.entries in
+    record {
+      above = omega arith;
+      below = omega (arith, within (vec_items old) (vec_items entries) c.args.marks.now c.args.k c.in_ok-gather.ensures.items, c.len-start.ensures, c.count_marked.ensures, c.len.ensures, old.ok.0, entries.ok.0);
+    }
+
+pub returns : goal.returns
+returns c =
+    let old = c.args.self.now in
+    let entries = c.gather.new.entries in
+    let marks = c.args.marks.now in
+    let begins : c.len-start.result ≡ length (vec_items old.entries) = c.len-start.ensures ∙ old.entries.ok.0 in
+    λ f n marks_are so_far.
+    added f n c.args.k marks c.requires.inside marks_are (vec_items old.entries) (vec_items entries) (vec_items old.columns) (vec_items c.push.new.self) _
+    c.in_ok-gather.ensures.items
+    c.in_ok-push.ensures.items
+    begins
+    (λ d. begins d + c.count_marked.ensures d)
+    (c.len.ensures ∙ entries.ok.0)
+    so_far
