@@ -45,20 +45,6 @@ module _ (p : ℕ → Bool) where
       ∙ ap (λ (x : ℕ). filter p (range_with_len 0 k ++ range_with_len x (n - k))) (zero-add k)
       ∙ filter-append p (range_with_len 0 k) (range_with_len k (n - k))
 
-  kept_next : (a i : ℕ) → a ≤ i → filter p (range_with_len a (i + 1 - a)) ≡ filter p (range_with_len a (i - a)) ++ cond (p i) (i ∷ []) []
-  kept_next a i from =
-      let e : i + 1 - a ≡ (i - a) + 1 = omega arith in
-      let e2 : a + (i - a) ≡ i = omega arith in
-      ap (λ (x : ℕ). filter p (range_with_len a x)) e ∙ ap (filter p) (counting_split a (i - a) 1)
-      ∙ ap (λ (x : ℕ). filter p (range_with_len a (i - a) ++ x ∷ [])) e2
-      ∙ filter-append p (range_with_len a (i - a)) (i ∷ [])
-
-  pub kept_next_yes : (a i : ℕ) → a ≤ i → p i ≡ true → filter p (range_with_len a (i + 1 - a)) ≡ filter p (range_with_len a (i - a)) ++ i ∷ []
-  kept_next_yes a i from on = kept_next a i from ∙ ap (λ (b : Bool). filter p (range_with_len a (i - a)) ++ cond b (i ∷ []) []) on
-
-  pub kept_next_no : (a i : ℕ) → a ≤ i → p i ≡ false → filter p (range_with_len a (i + 1 - a)) ≡ filter p (range_with_len a (i - a))
-  kept_next_no a i from off = kept_next a i from ∙ ap (λ (b : Bool). filter p (range_with_len a (i - a)) ++ cond b (i ∷ []) []) off ∙ append-nil (filter p (range_with_len a (i - a)))
-
   -- each is in the range and passes
   pub kept_within : (n a : ℕ) → All (λ i. (a ≤ i) × (i < a + n) × (p i ≡ true)) (filter p (range_with_len a n))
   kept_within zero a = tt

@@ -10,7 +10,7 @@ use Rattle.elimination.specs.Storage.{bounds_of, Stored}
 use Rattle.elimination.proofs.Storing.{kept_same, stored_more}
 use Rattle.symbolic.specs.Columns.{bounds}
 use Rattle.symbolic.specs.declared.patterns.Column.{Column}
-use Rattle.symbolic.specs.Tables.{marks_in}
+use Rattle.symbolic.specs.Marks.{marks_in, marked_rows}
 use Rattle.symbolic.proofs.Counting.{length-filter_map}
 
 module _ (f : Places) (n k : ℕ) (marks : List Bool) (inside : k < length marks) (marks_are : marks ≡ marks_in f n k) where
@@ -20,7 +20,7 @@ module _ (f : Places) (n k : ℕ) (marks : List Bool) (inside : k < length marks
   agrees : (i : ℕ) → i < n → get_or marks i false ≡ f i k
   agrees i h = ap (λ (xs : List Bool). get_or xs i false) marks_are ∙ get_or-map-range_with_len (λ i. f i k) 0 n i i false h (omega arith)
 
-  rows_are : filter (λ i. get_or marks i false) (range_with_len 0 (length marks)) ≡ rows_of f n k
+  rows_are : marked_rows marks ≡ rows_of f n k
   rows_are = ap (λ (x : ℕ). filter (λ i. get_or marks i false) (range_with_len 0 x)) long ∙ kept_same (λ i. get_or marks i false) (λ i. f i k) n agrees
 
   above_are : length (filter (λ marked. marked) (take k marks)) ≡ length (awaited_by f k)
@@ -29,7 +29,7 @@ module _ (f : Places) (n k : ℕ) (marks : List Bool) (inside : k < length marks
       ∙ length-filter_map (λ marked. marked) (λ i. f i k) (range_with_len 0 k)
 
   module _ (old entries : List Entry) (before columns : List Column) (column : Column)
-      (entries_are : entries ≡ old ++ map (in_column k) (filter (λ i. get_or marks i false) (range_with_len 0 (length marks))))
+      (entries_are : entries ≡ old ++ map (in_column k) (marked_rows marks))
       (columns_are : columns ≡ before ++ column ∷ [])
       (begins : column.start ≡ length old)
       (diagonal : column.diagonal ≡ length old + length (filter (λ marked. marked) (take k marks)))

@@ -3,5 +3,4 @@ pub mod ColumnFill
 pub mod Counting
 pub mod FilledFacts
 pub mod Limits
-pub mod PlacedEntries
 pub mod Spreading

@@ -1,4 +1,5 @@
 pub mod Columns
 pub mod Filling
+pub mod Marks
 pub mod Tables
 pub mod Trying

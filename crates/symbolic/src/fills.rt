@@ -4,7 +4,8 @@ ghost use Rattle.network.specs.Permutations.{met};
 ghost use Rattle.elimination.specs.Plans.{limit_checked};
 ghost use Rattle.elimination.specs.Storage.{row_of};
 ghost use Rattle.symbolic.specs.Filling.{Holds};
-ghost use Rattle.symbolic.specs.Tables.{filled_from, marks_in};
+ghost use Rattle.symbolic.specs.Marks.{marks_in};
+ghost use Rattle.symbolic.specs.Tables.{filled_from};
 ghost use Rattle.symbolic.specs.Trying.{Tries};
 
 use super::patterns::Filled;
@@ -33,10 +34,11 @@ fn spread(marks: &mut [bool], column: &[Entry], j: usize)
 fn fill_column(marks: &mut [bool], table: &Table<'_>, filled: &Filled, k: usize)
     requires long { length marks.old ≡ table.now.n }
     requires inside { k < table.now.n }
-    requires holds { Holds (filled_from table.now.marks.now table.now.n) table.now.n k filled.now }
-    ensures { marks.new ≡ marks_in (filled_from table.now.marks.now table.now.n) table.now.n k }
+    requires holds { Holds (filled_from table.now) table.now.n k filled.now }
+    ensures { marks.new ≡ marks_in (filled_from table.now) table.now.n k }
 {
     table.copy_column(k, marks);
+    // each turn may mark later columns, so the marks are read one by one as it goes
     for j in 0..k {
         if marks[j] {
             spread(marks, filled.column(j), j);
@@ -46,7 +48,7 @@ fn fill_column(marks: &mut [bool], table: &Table<'_>, filled: &Filled, k: usize)
 
 // The filled pattern of the matrix whose entries are in a table, unless it is too large.
 pub(crate) fn fill(heap: Global, table: &Table<'_>) -> Result<Filled, Refusal>
-    ensures { Tries (limit_checked (filled_from table.now.marks.now table.now.n) table.now.n) (Holds (filled_from table.now.marks.now table.now.n) table.now.n table.now.n) result }
+    ensures { let f = filled_from table.now in let n = table.now.n in Tries (limit_checked f n) (Holds f n n) result }
 {
     let mut filled = Filled::new(heap);
     let mut marks = vec![in heap; false; table.n]?;

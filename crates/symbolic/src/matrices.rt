@@ -1,8 +1,9 @@
 // A permuted matrix with its filled pattern: the levels of its columns, the places of its entries and of its diagonal.
-ghost use Rattle.std.specs.Prelude.{◌≡◌, ◌<◌, map, length, vec_len, IfOk, nat_lt, filter};
+ghost use Rattle.std.specs.Prelude.{◌≡◌, ◌<◌, map, length, vec_len, IfOk, option_map, nat_lt, filter};
 ghost use Rattle.std.specs.List.{range_with_len};
 ghost use Rattle.network.specs.NetworkSheet.{pattern};
 ghost use Rattle.network.specs.OrderSheet.{orders};
+ghost use Rattle.network.specs.Permuted.{place_told};
 ghost use Rattle.elimination.specs.Plans.{diagonals_checked, entry_place, levels_of, stored_place};
 ghost use Rattle.symbolic.specs.Filling.{HoldsAll, filled_of};
 
@@ -12,6 +13,7 @@ use network::{Entry, Permuted};
 use refusals::Refusal;
 use std::alloc::{AllocError, Global};
 
+// A permuted matrix and the filled places that its entries come to.
 #[derive(Drop)]
 pub(crate) struct FilledMatrix<'a> {
     matrix: &'a Permuted,
@@ -26,10 +28,10 @@ fn entries_above(column: &[Entry], row: u16) -> usize
     column.iter().filter(|entry| entry.row < row).count()
 }
 
-impl<'a> FilledMatrix<'a> {
+impl FilledMatrix<'_> {
     // The level of each column, from the first on.
     pub(crate) fn find_levels(&self, heap: Global) -> Result<Vec<u16>, AllocError>
-        ensures { IfOk result (λ v. v.items ≡ levels_of (filled_of self.now.matrix.now) self.now.matrix.now.network.n) }
+        ensures { let m = self.now.matrix.now in IfOk result (λ v. v.items ≡ levels_of (filled_of m) m.network.n) }
     {
         let mut levels = Vec::new(heap);
         for k in 0..self.filled.columns.len() {
@@ -43,28 +45,32 @@ impl<'a> FilledMatrix<'a> {
     fn place_of(&self, entry: Entry) -> usize
         requires row { entry.row < self.now.matrix.now.network.n }
         requires column { entry.column < self.now.matrix.now.network.n }
-        ensures { result ≡ stored_place (filled_of self.now.matrix.now) self.now.matrix.now.network.n entry.row entry.column }
+        ensures { let m = self.now.matrix.now in result ≡ stored_place (filled_of m) m.network.n entry.row entry.column }
     {
         let k = usize::from(entry.column);
         self.filled.columns[k].start + entries_above(self.filled.column(k), entry.row)
     }
 
+    // The place of entry t of the network sheet, if there is such an entry.
+    fn place_of_entry(&self, t: usize) -> Option<usize>
+        ensures { let m = self.now.matrix.now in result ≡ option_map (λ place. stored_place (filled_of m) m.network.n place.row place.column) (place_told (pattern m.network) (orders m.order) t) }
+    {
+        let place = self.matrix.place(t)?;
+        Some(self.place_of(place))
+    }
+
     // The place of each entry of the network sheet.
     pub(crate) fn find_places(&self, heap: Global) -> Result<Vec<usize>, AllocError>
-        ensures { IfOk result (λ v. v.items ≡ map (entry_place (pattern self.now.matrix.now.network) (orders self.now.matrix.now.order)) (range_with_len 0 (vec_len self.now.matrix.now.network.entries))) }
+        ensures { let m = self.now.matrix.now in IfOk result (λ v. v.items ≡ map (entry_place (pattern m.network) (orders m.order)) (range_with_len 0 (vec_len m.network.entries))) }
     {
-        let mut places = Vec::new(heap);
-        for entry in self.matrix.network().entries() {
-            if let Some(place) = self.matrix.order().place(*entry) {
-                places.push(self.place_of(place))?;
-            }
-        }
-        Ok(places)
+        (0..self.matrix.network().entries().len())
+            .filter_map(|t| self.place_of_entry(t))
+            .collect(heap)
     }
 
     // Every diagonal place has to be filled.
     pub(crate) fn check_diagonals(&self) -> Result<(), Refusal>
-        ensures { result ≡ diagonals_checked (filled_of self.now.matrix.now) self.now.matrix.now.network.n }
+        ensures { let m = self.now.matrix.now in result ≡ diagonals_checked (filled_of m) m.network.n }
     {
         for k in 0..self.filled.columns.len() {
             if !self.filled.has_diagonal(k) {

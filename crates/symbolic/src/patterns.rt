@@ -1,10 +1,10 @@
 // The filled pattern, stored column after column.
-ghost use Rattle.std.specs.Prelude.{◌≡◌, ℕ, ◌+◌, ◌<◌, ◌≤◌, false, ◌&&◌, ◌++◌, map, length, filter, vec_len, ◌==◌, nat_lt, All, OnOk, take, slice_index_or, slice_range};
-ghost use Rattle.std.specs.List.{range_with_len, HoldsAt};
+ghost use Rattle.std.specs.Prelude.{◌≡◌, ℕ, ◌+◌, ◌<◌, ◌≤◌, ◌&&◌, ◌++◌, All, map, length, filter, vec_len, ◌==◌, nat_lt, OnOk, slice_index_or, slice_range};
+ghost use Rattle.std.specs.List.{HoldsAt};
 ghost use Rattle.network.specs.Entries.{origin};
 ghost use Rattle.elimination.specs.Fill.{Places};
 ghost use Rattle.elimination.specs.Plans.{in_column};
-ghost use Rattle.symbolic.specs.Tables.{marks_in};
+ghost use Rattle.symbolic.specs.Marks.{marks_in, marked_rows};
 
 use network::Entry;
 use std::alloc::{AllocError, Global};
@@ -20,6 +20,7 @@ pub(crate) struct Column {
     ghost below: { diagonal ≤ end },
 }
 
+// The filled places of the columns so far.
 #[derive(Drop)]
 pub(crate) struct Filled {
     // the filled entries, by column, then by row
@@ -38,7 +39,7 @@ fn count_marked(marks: &[bool]) -> usize
 // Adds the marked rows of column k.
 fn gather(entries: &mut Vec<Entry>, marks: &[bool], k: u16) -> Result<(), AllocError>
     requires { length marks.now ≤ 512 }
-    ensures items { OnOk result (entries.new.items ≡ entries.old.items ++ map (in_column k) (filter (λ i. slice_index_or marks.now i false) (range_with_len 0 (length marks.now)))) }
+    ensures items { OnOk result (entries.new.items ≡ entries.old.items ++ map (in_column k) (marked_rows marks.now)) }
     ensures grows { vec_len entries.old ≤ vec_len entries.new }
 {
     for (i, marked) in marks.iter().enumerate() {
@@ -65,7 +66,7 @@ impl Filled {
         }
     }
 
-    // Adds column k, whose filled rows are marked.
+    // Adds column k, whose filled rows are marked. Where memory is wanting, a part of its entries may stay.
     pub(crate) fn add_column(&mut self, marks: &[bool], k: usize) -> Result<(), AllocError>
         requires few { length marks.now ≤ 512 }
         requires inside { k < length marks.now }

@@ -1,6 +1,5 @@
 // A table of a matrix's entries.
 ghost use Rattle.std.specs.Prelude.{◌≡◌, ◌*◌, ◌<◌, ◌≤◌, length};
-ghost use Rattle.symbolic.specs.Tables.{tabled, marks_in};
 
 // Whether a matrix of n columns has an entry at each place, row by row.
 #[derive(Clone, Copy)]
@@ -11,12 +10,15 @@ pub(crate) struct Table<'a> {
     ghost whole: { length marks.now ≡ n * n },
 }
 
-impl<'a> Table<'a> {
+impl Table<'_> {
+    ghost use Rattle.symbolic.specs.Marks.{marks_in};
+    ghost use Rattle.symbolic.specs.Tables.{tabled};
+
     // Whether there is an entry in row i of column k.
     fn has_entry(&self, i: usize, k: usize) -> bool
         requires row { i < self.now.n }
         requires column { k < self.now.n }
-        ensures { result ≡ tabled self.now.marks.now self.now.n i k }
+        ensures { result ≡ tabled self.now i k }
     {
         self.marks[i * self.n + k]
     }
@@ -25,7 +27,7 @@ impl<'a> Table<'a> {
     pub(crate) fn copy_column(&self, k: usize, marks: &mut [bool])
         requires long { length marks.old ≡ self.now.n }
         requires inside { k < self.now.n }
-        ensures { marks.new ≡ marks_in (tabled self.now.marks.now self.now.n) self.now.n k }
+        ensures { marks.new ≡ marks_in (tabled self.now) self.now.n k }
     {
         for (i, mark) in marks.iter_mut().enumerate() {
             *mark = self.has_entry(i, k);

@@ -5,7 +5,8 @@ use Rattle.refusals.specs.declared.Refusal.TheVariants.{FillLimit}
 use Rattle.refusals.specs.Checks.{each_from}
 use Rattle.refusals.proofs.Checking.{each_from_goes, each_from_stops}
 use Rattle.symbolic.specs.Filling.{Holds}
-use Rattle.symbolic.specs.Tables.{filled_from, marks_in}
+use Rattle.symbolic.specs.Tables.{filled_from}
+use Rattle.symbolic.specs.Marks.{marks_in}
 use Rattle.symbolic.proofs.FilledFacts.{entries_long}
 use Rattle.symbolic.proofs.Limits.{within_limit, past_limit, tries_refused}
 use Rattle.symbolic.proofs.fills.fill.Goals as goal
@@ -13,14 +14,14 @@ use Rattle.symbolic.proofs.fills.fill.Goals as goal
 pub loop-k-init : goal.loop-k-init
 loop-k-init c =
     let n = c.args.table.now.n in
-    let f = filled_from c.args.table.now.marks.now n in
+    let f = filled_from c.args.table.now in
     let all : n - 0 ≡ n = omega arith in
     record { holds = c.new-filled.ensures f n; long = search rules; left = ap (each_from (limit_verdict f n) 0) all }
 
 pub returns-then-len-gt-MAX_FILLED : goal.returns-then-len-gt-MAX_FILLED
 returns-then-len-gt-MAX_FILLED c =
     let n = c.args.table.now.n in
-    let f = filled_from c.args.table.now.marks.now n in
+    let f = filled_from c.args.table.now in
     let k = c.loop-k.k in
     let x = c.add_column.new.self in
     let marks : c.deref.result.now ≡ marks_in f n k = c.deref.ensures.value ∙ take_at c.fill_column.new.marks _ c.loop-k.marks.len (c.fill_column.auto.marks ∙ c.deref_mut.ensures.len) ∙ c.fill_column.ensures in
@@ -31,7 +32,7 @@ returns-then-len-gt-MAX_FILLED c =
 pub loop-k-preserved : goal.loop-k-preserved
 loop-k-preserved c =
     let n = c.args.table.now.n in
-    let f = filled_from c.args.table.now.marks.now n in
+    let f = filled_from c.args.table.now in
     let k = c.loop-k.k in
     let x = c.add_column.new.self in
     let marks : c.deref.result.now ≡ marks_in f n k = c.deref.ensures.value ∙ take_at c.fill_column.new.marks _ c.loop-k.marks.len (c.fill_column.auto.marks ∙ c.deref_mut.ensures.len) ∙ c.fill_column.ensures in

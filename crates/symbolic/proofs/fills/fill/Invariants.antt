@@ -8,7 +8,7 @@ use Rattle.symbolic.proofs.fills.fill.Given as goal
 abbrev pub invariant-loop-k : goal.invariant-loop-k
 invariant-loop-k l =
     let n = l.table.n in
-    let f = filled_from l.table.marks.now n in
+    let f = filled_from l.table in
     record {
       holds : Holds f n l.k l.filled;
       long : vec_len l.marks ≡ n;

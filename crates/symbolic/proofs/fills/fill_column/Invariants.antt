@@ -2,4 +2,4 @@ use Rattle.symbolic.proofs.ColumnFill.{TakenUp}
 use Rattle.symbolic.proofs.fills.fill_column.Given as goal
 
 abbrev pub invariant-loop-j : goal.invariant-loop-j
-invariant-loop-j l = TakenUp l.table.marks.now l.table.n l.k l.j l.marks
+invariant-loop-j l = TakenUp l.table l.k l.j l.marks

@@ -6,4 +6,4 @@ use Rattle.symbolic.proofs.tables.Table.copy_column.Goals as goal
 pub returns : goal.returns
 returns c =
     let table = c.args.self.now in
-    fill_by_all (λ i. tabled table.marks.now table.n i c.args.k) c.loop-i.marks table.n false (omega arith) (λ j h. c.loop-i.invariant j (omega arith))
+    fill_by_all (λ i. tabled table i c.args.k) c.loop-i.marks table.n false (omega arith) (λ j h. c.loop-i.invariant j (omega arith))
