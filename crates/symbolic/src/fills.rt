@@ -38,10 +38,9 @@ fn fill_column(marks: &mut [bool], table: &Table<'_>, filled: &Filled, k: usize)
     ensures { marks.new ≡ marks_in (filled_from table.now) table.now.n k }
 {
     table.copy_column(k, marks);
-    // each turn may mark later columns, so the marks are read one by one as it goes
-    for j in 0..k {
+    for (j, column) in filled.columns.iter().enumerate() {
         if marks[j] {
-            spread(marks, filled.column(j), j);
+            spread(marks, filled.entries_of(*column), j);
         }
     }
 }

@@ -16,8 +16,8 @@ use std::alloc::{AllocError, Global};
 // A permuted matrix and the filled places that its entries come to.
 #[derive(Drop)]
 pub(crate) struct FilledMatrix<'a> {
-    matrix: &'a Permuted,
-    filled: Filled,
+    pub(crate) matrix: &'a Permuted,
+    pub(crate) filled: Filled,
     ghost holds: { HoldsAll matrix.now filled },
 }
 
@@ -34,8 +34,9 @@ impl FilledMatrix<'_> {
         ensures { let m = self.now.matrix.now in IfOk result (λ v. v.items ≡ levels_of (filled_of m) m.network.n) }
     {
         let mut levels = Vec::new(heap);
-        for k in 0..self.filled.columns.len() {
-            let level = level_after(&levels, self.filled.awaited(k));
+        for column in &self.filled.columns {
+            let awaited = &self.filled.entries[column.start..column.diagonal];
+            let level = level_after(&levels, awaited);
             levels.push(level)?;
         }
         Ok(levels)
@@ -47,8 +48,8 @@ impl FilledMatrix<'_> {
         requires column { entry.column < self.now.matrix.now.network.n }
         ensures { let m = self.now.matrix.now in result ≡ stored_place (filled_of m) m.network.n entry.row entry.column }
     {
-        let k = usize::from(entry.column);
-        self.filled.columns[k].start + entries_above(self.filled.column(k), entry.row)
+        let column = self.filled.columns[usize::from(entry.column)];
+        column.start + entries_above(self.filled.entries_of(column), entry.row)
     }
 
     // The place of entry t of the network sheet, if there is such an entry.
@@ -72,8 +73,8 @@ impl FilledMatrix<'_> {
     pub(crate) fn check_diagonals(&self) -> Result<(), Refusal>
         ensures { let m = self.now.matrix.now in result ≡ diagonals_checked (filled_of m) m.network.n }
     {
-        for k in 0..self.filled.columns.len() {
-            if !self.filled.has_diagonal(k) {
+        for (k, column) in self.filled.columns.iter().enumerate() {
+            if !self.filled.has_diagonal(*column, k) {
                 return Err(Refusal::DiagonalNotFilled(k));
             }
         }

@@ -1,6 +1,5 @@
 // The filled pattern, stored column after column.
 ghost use Rattle.std.specs.Prelude.{◌≡◌, ℕ, ◌+◌, ◌<◌, ◌≤◌, ◌&&◌, ◌++◌, All, map, length, filter, vec_len, ◌==◌, nat_lt, OnOk, slice_index_or, slice_range};
-ghost use Rattle.std.specs.List.{HoldsAt};
 ghost use Rattle.network.specs.Entries.{origin};
 ghost use Rattle.elimination.specs.Fill.{Places};
 ghost use Rattle.elimination.specs.Plans.{in_column};
@@ -13,9 +12,9 @@ use std::alloc::{AllocError, Global};
 #[derive(Clone, Copy)]
 pub(crate) struct Column {
     pub(crate) start: usize,
-    // the place of its diagonal, filled or not
-    diagonal: usize,
-    end: usize,
+    // the place of its diagonal, filled or not; the rows of the entries before it are the columns that it awaits
+    pub(crate) diagonal: usize,
+    pub(crate) end: usize,
     ghost above: { start ≤ diagonal },
     ghost below: { diagonal ≤ end },
 }
@@ -82,34 +81,20 @@ impl Filled {
         Ok(())
     }
 
-    // The filled entries of column k.
-    pub(crate) fn column(&self, k: usize) -> &[Entry]
-        requires { k < vec_len self.now.columns }
-        ensures { HoldsAt (λ column. result.now ≡ slice_range self.now.entries.items column.start column.end) self.now.columns.items k }
+    // The filled entries of a column.
+    pub(crate) fn entries_of(&self, column: Column) -> &[Entry]
+        requires { column.end ≤ vec_len self.now.entries }
+        ensures { result.now ≡ slice_range self.now.entries.items column.start column.end }
     {
-        let Column { start, end, .. } = self.columns[k];
-        &self.entries[start..end]
-    }
-
-    // Those above its diagonal: the columns that it awaits are their rows.
-    pub(crate) fn awaited(&self, k: usize) -> &[Entry]
-        requires { k < vec_len self.now.columns }
-        ensures { HoldsAt (λ column. result.now ≡ slice_range self.now.entries.items column.start column.diagonal) self.now.columns.items k }
-    {
-        let Column {
-            start,
-            diagonal,
-            ..
-        } = self.columns[k];
-        &self.entries[start..diagonal]
+        &self.entries[column.start..column.end]
     }
 
     // Whether the diagonal place of column k is filled: the column goes on there with its own number.
-    pub(crate) fn has_diagonal(&self, k: usize) -> bool
-        requires { k < vec_len self.now.columns }
-        ensures { HoldsAt (λ column. result ≡ (nat_lt column.diagonal column.end && (slice_index_or self.now.entries.items column.diagonal origin).row == k)) self.now.columns.items k }
+    pub(crate) fn has_diagonal(&self, column: Column, k: usize) -> bool
+        requires { column.end ≤ vec_len self.now.entries }
+        ensures { result ≡ (nat_lt column.diagonal column.end && (slice_index_or self.now.entries.items column.diagonal origin).row == k) }
     {
-        let Column { diagonal, end, .. } = self.columns[k];
+        let Column { diagonal, end, .. } = column;
         diagonal < end && usize::from(self.entries[diagonal].row) == k
     }
 }

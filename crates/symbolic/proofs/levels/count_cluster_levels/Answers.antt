@@ -11,5 +11,5 @@ pub returns : goal.returns
 returns c =
     let levels = c.args.levels.now in
     let threshold = c.args.threshold in
-    count_from_yields_List c.take_while.result _ c.count.ensures.ran (YieldsList-from_take_while _ (wide levels threshold) (YieldsList-from_range 0 (length levels) (length levels) (cc) (omega arith)) c.take_while.ensures.closure c.take_while.ensures.done (λ x b q k. search (rules, tests)))
+    count_from_yields_List c.take_while.result c.count.result c.count.ensures.ran (YieldsList-from_take_while _ (wide levels threshold) (YieldsList-from_range 0 (length levels) (length levels) (cc) (omega arith)) c.take_while.ensures.closure c.take_while.ensures.done (λ x b q k. search (rules, tests)))
     ∙ length-prefix_len (wide levels threshold) (range_with_len 0 (length levels))

@@ -8,5 +8,5 @@ pub returns : goal.returns
 returns c =
     let levels = c.args.levels.now in
     let level = c.args.level in
-    count_from_yields_List c.filter.result _ c.count.ensures.ran (YieldsList-from_filter _ (λ l. eqb l level) (YieldsList-from_slice levels cc) c.filter.ensures.closure (λ x b q k. search (rules, tests)))
+    count_from_yields_List c.filter.result c.count.result c.count.ensures.ran (YieldsList-from_filter _ (λ l. eqb l level) (YieldsList-from_slice levels cc) c.filter.ensures.closure (λ x b q k. search (rules, tests)))
     ∙ length-filter_places (λ l. eqb l level) levels 0

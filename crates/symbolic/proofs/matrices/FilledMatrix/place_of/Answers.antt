@@ -1,4 +1,4 @@
-use Rattle.std.proofs.Common.{◌≡◌, ℕ, ◌+◌, ◌<◌, ◌≤◌, ltb, List, length, map, filter, ap, ◌∙◌, arith}
+use Rattle.std.proofs.Common.{◌≡◌, ℕ, ◌+◌, ◌<◌, ◌≤◌, ltb, List, length, map, vec_items, filter, refl, ap, ◌∙◌, arith}
 use Rattle.network.specs.declared.entries.Entry.{Entry}
 use Rattle.elimination.specs.Fill.{Places}
 use Rattle.elimination.specs.Plans.{in_column, rows_of, start, stored_place}
@@ -7,7 +7,7 @@ use Rattle.elimination.proofs.Storing.{kept_below, place_within, start_rises}
 use Rattle.symbolic.specs.declared.patterns.Column.{Column}
 use Rattle.symbolic.specs.Filling.{filled_of}
 use Rattle.symbolic.proofs.Counting.{length-filter_map}
-use Rattle.symbolic.proofs.FilledFacts.{bounds_at, column_is, columns_all, entries_long}
+use Rattle.symbolic.proofs.FilledFacts.{bounds_are, column_is, columns_long, entries_long}
 use Rattle.symbolic.proofs.matrices.FilledMatrix.place_of.Goals as goal
 
 -- as many entries of column k stand above row i as its filled rows
@@ -16,11 +16,20 @@ above_are f n i k xs inside is =
     ap (λ (m : ℕ). start f n k + m)
     (ap (λ (ys : List Entry). length (filter (λ entry. ltb entry.row i) ys)) is ∙ length-filter_map (λ entry. ltb entry.row i) (in_column k) (rows_of f n k) ∙ ap length (kept_below (λ r. f r k) n i inside))
 
-pub index-requires : goal.index-requires
-index-requires c = omega (arith, columns_all c.args.self.now, c.from-k.ensures, c.requires.column)
+pub index-column-requires : goal.index-column-requires
+index-column-requires c =
+    let x = c.args.self.now in
+    let n = x.matrix.now.network.n in
+    omega (arith, columns_long (filled_of x.matrix.now) n n x.filled x.holds, x.filled.columns.ok.0, c.from.ensures, c.requires.column)
 
-pub column-requires : goal.column-requires
-column-requires c = omega (arith, columns_all c.args.self.now, c.from-k.ensures, c.requires.column)
+pub entries_of-requires : goal.entries_of-requires
+entries_of-requires c =
+    let x = c.args.self.now in
+    let n = x.matrix.now.network.n in
+    let column = c.index-column.result.now in
+    let k = c.from.result in
+    let more : k < length (vec_items x.filled.columns) = omega (arith, columns_long (filled_of x.matrix.now) n n x.filled x.holds, c.from.ensures, c.requires.column) in
+    omega (arith, x.filled.inside k column more, ap (λ (at : Column). at.end) c.index-column.ensures)
 
 pub returns : goal.returns
 returns c =
@@ -28,11 +37,13 @@ returns c =
     let n = x.matrix.now.network.n in
     let f = filled_of x.matrix.now in
     let i = c.args.entry.row in
-    let k = c.from-k.result in
-    let below : k < n = omega (arith, c.from-k.ensures, c.requires.column) in
-    let column = column_is f n n x.filled x.holds k below c.column.result.now c.column.ensures in
-    let begins : c.index.result.now.start ≡ start f n k = ap (λ (column : Column). column.start) c.index.ensures ∙ ap (λ (place : Bounds). place.start) (bounds_at f n n x.filled x.holds k below c.index.result.now) in
-    (λ d. begins d + c.entries_above.ensures d) ∙ above_are f n i k c.column.result.now (omega arith) column ∙ ap (stored_place f n i) c.from-k.ensures
+    let k = c.from.result in
+    let columns = vec_items x.filled.columns in
+    let column = c.index-column.result.now in
+    let more : k < length columns = omega (arith, columns_long f n n x.filled x.holds, c.from.ensures, c.requires.column) in
+    let entries = column_is f n n x.filled x.holds columns refl k more column c.index-column.ensures c.entries_of.result.now c.entries_of.ensures in
+    let begins : column.start ≡ start f n k = ap (λ (place : Bounds). place.start) (bounds_are f n n x.filled x.holds columns refl k more column c.index-column.ensures) in
+    (λ d. begins d + c.entries_above.ensures d) ∙ above_are f n i k c.entries_of.result.now (omega arith) entries ∙ ap (stored_place f n i) c.from.ensures
 
 pub overflow_add-result : goal.overflow_add-result
 overflow_add-result c =
