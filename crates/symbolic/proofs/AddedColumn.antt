@@ -11,7 +11,7 @@ use Rattle.elimination.proofs.Storing.{kept_same, stored_more}
 use Rattle.symbolic.specs.Columns.{bounds}
 use Rattle.symbolic.specs.declared.patterns.Column.{Column}
 use Rattle.symbolic.specs.Marks.{marks_in, marked_rows}
-use Rattle.symbolic.proofs.Counting.{length-filter_map}
+use Rattle.symbolic.proofs.Counting.{length_filter_map}
 
 module _ (f : Places) (n k : ℕ) (marks : List Bool) (inside : k < length marks) (marks_are : marks ≡ marks_in f n k) where
   long : length marks ≡ n
@@ -26,7 +26,7 @@ module _ (f : Places) (n k : ℕ) (marks : List Bool) (inside : k < length marks
   above_are : length (filter (λ marked. marked) (take k marks)) ≡ length (awaited_by f k)
   above_are =
       ap (λ (xs : List Bool). length (filter (λ marked. marked) xs)) (ap (take k) marks_are ∙ take-map-range_with_len (λ i. f i k) 0 n k (omega (arith, long)))
-      ∙ length-filter_map (λ marked. marked) (λ i. f i k) (range_with_len 0 k)
+      ∙ length_filter_map (λ marked. marked) (λ i. f i k) (range_with_len 0 k)
 
   module _ (old entries : List Entry) (before columns : List Column) (column : Column)
       (entries_are : entries ≡ old ++ map (in_column k) (marked_rows marks))

@@ -6,7 +6,7 @@ use Rattle.elimination.specs.Storage.{Bounds}
 use Rattle.elimination.proofs.Storing.{kept_below, place_within, start_rises}
 use Rattle.symbolic.specs.declared.patterns.Column.{Column}
 use Rattle.symbolic.specs.Filling.{filled_of}
-use Rattle.symbolic.proofs.Counting.{length-filter_map}
+use Rattle.symbolic.proofs.Counting.{length_filter_map}
 use Rattle.symbolic.proofs.FilledFacts.{bounds_are, column_is, columns_long, entries_long}
 use Rattle.symbolic.proofs.matrices.FilledMatrix.place_of.Goals as goal
 
@@ -14,7 +14,7 @@ use Rattle.symbolic.proofs.matrices.FilledMatrix.place_of.Goals as goal
 above_are : (f : Places) (n i k : ℕ) (xs : List Entry) → i ≤ n → xs ≡ map (in_column k) (rows_of f n k) → start f n k + length (filter (λ entry. ltb entry.row i) xs) ≡ stored_place f n i k
 above_are f n i k xs inside is =
     ap (λ (m : ℕ). start f n k + m)
-    (ap (λ (ys : List Entry). length (filter (λ entry. ltb entry.row i) ys)) is ∙ length-filter_map (λ entry. ltb entry.row i) (in_column k) (rows_of f n k) ∙ ap length (kept_below (λ r. f r k) n i inside))
+    (ap (λ (ys : List Entry). length (filter (λ entry. ltb entry.row i) ys)) is ∙ length_filter_map (λ entry. ltb entry.row i) (in_column k) (rows_of f n k) ∙ ap length (kept_below (λ r. f r k) n i inside))
 
 pub index-column-requires : goal.index-column-requires
 index-column-requires c =

@@ -4,13 +4,13 @@ use Rattle.network.specs.declared.entries.Entry.{Entry}
 use Rattle.elimination.specs.Plans.{in_column}
 use Rattle.symbolic.specs.Marks.{marked_rows}
 use Rattle.symbolic.proofs.AddedColumn.{added}
-use Rattle.symbolic.proofs.Counting.{length-filter-take, length-filter_places}
+use Rattle.symbolic.proofs.Counting.{length_filter_take, length_filter_places}
 use Rattle.symbolic.proofs.patterns.Filled.add_column.Goals as goal
 
 -- the rows above the diagonal are among those that were added
 within : (old entries : List Entry) (marks : List Bool) (k : ℕ) → entries ≡ old ++ map (in_column k) (marked_rows marks) → length old + length (filter (λ marked. marked) (take k marks)) ≤ length entries
 within old entries marks k is =
-    omega (arith, ap length is ∙ length-append old (map (in_column k) (marked_rows marks)), length-map (marked_rows marks) (in_column k), length-filter_places (λ marked. marked) marks false, length-filter-take (λ marked. marked) k marks)
+    omega (arith, ap length is ∙ length-append old (map (in_column k) (marked_rows marks)), length-map (marked_rows marks) (in_column k), length_filter_places (λ marked. marked) marks false, length_filter_take (λ marked. marked) k marks)
 
 pub overflow_add-start : goal.overflow_add-start
 overflow_add-start c =
