@@ -1,5 +1,5 @@
 -- Marks of one column, as the rows of another are added to them. Assumes nothing.
-use Rattle.std.proofs.Common.{◌≡◌, ℕ, ◌+◌, ◌<◌, ◌≤◌, Bool, true, false, ◌&&◌, ◌||◌, ltb, List, length, get_or, take, set, sym, refl, ap, ◌∙◌, ⊎_elim, arith}
+use Rattle.std.proofs.Common.{◌≡◌, ℕ, ◌+◌, ◌<◌, ◌≤◌, Bool, true, false, ◌&&◌, ◌||◌, ltb, List, length, get_or, take, set, sym, ap, ◌∙◌, ⊎_elim, arith}
 use Rattle.std.proofs.lemmas.List.{get_or-set_same, get_or-set_other}
 use Rattle.std.proofs.lemmas.Bool.{cases_eq, eq-eqb, ne_eqb, lt-ltb, le-ltb, and_from, and_left, or_right}
 use Rattle.network.specs.Permutations.{met}
@@ -8,9 +8,6 @@ use Rattle.network.proofs.Permuting.{met_more, or_false}
 -- the rows of a list that lie below j, added to what was marked
 abbrev pub Spread : ℕ → List ℕ → List Bool → List Bool → Type 0
 Spread j rows old marks = (i : ℕ) → i < length old → get_or marks i false ≡ (get_or old i false || (ltb j i && met i rows))
-
-pub spread_none : (j : ℕ) (old : List Bool) (i : ℕ) → get_or old i false ≡ (get_or old i false || (ltb j i && false))
-spread_none j old i = or_false _ _ (elim (ltb j i) as (λ b. (b && false) ≡ false) [ true ↦ refl | false ↦ refl ])
 
 module _ (j : ℕ) (rows : List ℕ) (old marks : List Bool) (t x : ℕ) (more : t < length rows) (is : x ≡ get_or rows t 0) (so_far : Spread j (take t rows) old marks) where
   apart : (i : ℕ) → (i ≡ x → ⊥) → met i (take t rows) ≡ met i (take (t + 1) rows)

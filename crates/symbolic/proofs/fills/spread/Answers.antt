@@ -1,14 +1,10 @@
-use Rattle.std.proofs.Common.{◌≡◌, ℕ, ◌<◌, false, ◌&&◌, ◌||◌, ltb, List, map, length, get_or, sym, ap, ◌∙◌, arith}
-use Rattle.std.proofs.lemmas.List.{take_all, get_or-map, length-map}
+use Rattle.std.proofs.Common.{◌≡◌, ◌<◌, map, length, get_or, sym, ◌∙◌, arith}
+use Rattle.std.proofs.lemmas.List.{get_or-map, length-map}
 use Rattle.network.specs.Entries.{origin}
-use Rattle.network.specs.Permutations.{met}
 use Rattle.elimination.specs.Storage.{row_of}
-use Rattle.symbolic.proofs.Spreading.{spread_none, spread_marks, spread_skips}
+use Rattle.symbolic.proofs.Spreading.{spread_marks, spread_skips}
 use Rattle.symbolic.proofs.fills.spread.Goals as goal
 use Rattle.symbolic.proofs.fills.spread.Goals.{then-i-j, else-i-j}
-
-pub loop-entry-init : goal.loop-entry-init
-loop-entry-init c = λ i h. spread_none c.args.j c.args.marks.now i
 
 pub loop-entry-preserved : goal.loop-entry-preserved
 loop-entry-preserved c =
@@ -21,9 +17,3 @@ loop-entry-preserved c =
       | then-i-j w ↦ rw w.marks-is (spread_marks c.args.j (map row_of column) c.args.marks.now c.loop-entry.marks t c.from-i.result more row c.loop-entry.invariant w.if-i-j.true inside)
       | else-i-j w ↦ rw w.marks-is (spread_skips c.args.j (map row_of column) c.args.marks.now c.loop-entry.marks t c.from-i.result more row c.loop-entry.invariant w.if-i-j.false)
     ]
-
-pub returns : goal.returns
-returns c =
-    let column = c.args.column.now in
-    let all = take_all c.loop-entry.entry-index (map row_of column) (omega (arith, length-map column row_of)) in
-    λ i h. c.loop-entry.invariant i h ∙ ap (λ (xs : List ℕ). get_or c.args.marks.now i false || (ltb c.args.j i && met i xs)) all
