@@ -1,13 +1,10 @@
 -- The test of filled places is the smallest set. Assumes nothing.
 use Rattle.std.proofs.Common.{◌≡◌, ℕ, zero, suc, ◌<◌, ◌≤◌, Bool, true, false, ◌&&◌, ◌||◌, ltb, ◌⊎◌, sym, refl, ap, ◌∙◌, subst, inl, inr, ⊎_elim, arith}
 use Rattle.std.proofs.lemmas.Bool.{lt-ltb, le-ltb, ltb-true, and_parts, and_from, and_left, and_right, or_cases, or_left, or_right, cases_eq}
+use Rattle.network.proofs.Permuting.{or_false}
 use Rattle.elimination.specs.Fill.{Places, Filled, filled}
 use Rattle.elimination.specs.Fill.Filled.{entry, fill}
 use Rattle.elimination.specs.Laws.{Closed, Smallest}
-
-or_false : (a b : Bool) → b ≡ false → (a || b) ≡ a
-or_false true b e = refl
-or_false false b e = e
 
 and_one : (b : Bool) → b ≡ (b && true)
 and_one true = refl
@@ -30,7 +27,7 @@ module _ (B : Places) where
   past c i k h = ⊎_elim (λ (r : i ≤ c). and_left _ _ (le-ltb c i r)) (λ (r : k ≤ c). and_right _ _ (le-ltb c k r)) h
 
   settled : (c i k : ℕ) → (i ≤ c) ⊎ (k ≤ c) → filled B (suc c) i k ≡ filled B c i k
-  settled c i k h = or_false _ _ (and_left _ _ (past c i k h))
+  settled c i k h = sym (or_false _ _ (and_left _ _ (past c i k h)))
 
   -- later columns do not change what the smaller of row and column has settled
   pub settled_to : (d c i k : ℕ) → c ≤ d → (i ≤ c) ⊎ (k ≤ c) → filled B d i k ≡ filled B c i k
@@ -75,7 +72,7 @@ module _ (B : Places) where
 
   -- ---- column k takes up the rows of column j below j, where j is filled in it
   pub step_skips : (j i k : ℕ) → filled B j j k ≡ false → filled B j i k ≡ filled B (suc j) i k
-  step_skips j i k off = sym (or_false _ _ (and_right (ltb j i && ltb j k) _ (and_right (filled B j i j) _ off)))
+  step_skips j i k off = or_false _ _ (and_right (ltb j i && ltb j k) _ (and_right (filled B j i j) _ off))
 
   pub step_takes : (n j i k : ℕ) → j < k → j ≤ n → filled B j j k ≡ true → (filled B j i k || (ltb j i && filled B n i j)) ≡ filled B (suc j) i k
   step_takes n j i k below few on =

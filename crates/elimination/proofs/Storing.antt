@@ -4,7 +4,8 @@ use Rattle.std.specs.List.{range_with_len, AllByRecursion as All}
 use Rattle.std.proofs.lemmas.List.Elements.{filter-append}
 use Rattle.std.proofs.ByRecursion.{All-get_or, All-weaker}
 use Rattle.std.proofs.lemmas.List.{append-nil, append_assoc, map-append, length-append, length-map, take_at, drop_at, get_or-append-add}
-use Rattle.std.proofs.lemmas.Bool.{cases_eq, cases_lt, cases_Bool, eq-eqb, ne_eqb, lt-ltb, le-ltb, and_from, and_right, cond-true, cond-false}
+use Rattle.std.proofs.lemmas.Bool.{cases_eq, eq-eqb, ne_eqb, lt-ltb, le-ltb, and_from, and_right, cond-true, cond-false, cond_both}
+use Rattle.std.proofs.lemmas.Bool.Decides.{nat_tests}
 use Rattle.network.specs.declared.entries.Entry.{Entry}
 use Rattle.network.specs.Entries.{origin}
 use Rattle.network.specs.Permutations.{met}
@@ -50,17 +51,10 @@ module _ (p : ℕ → Bool) where
   kept_within zero a = tt
   kept_within (suc n) a =
       let later : All (λ i. (a + 1 ≤ i) × (i < a + 1 + n) × (p i ≡ true)) (filter p (range_with_len (a + 1) n)) = kept_within n (a + 1) in
-      let wider = widen (filter p (range_with_len (a + 1) n)) a n later in
-      ⊎_elim
-      (λ (yes : p a ≡ true).
-      subst (All (λ i. (a ≤ i) × (i < a + suc n) × (p i ≡ true))) (sym (cond-true (p a) _ _ yes)) ((omega arith, omega arith, yes), wider))
-      (λ (no : p a ≡ false).
-      subst (All (λ i. (a ≤ i) × (i < a + suc n) × (p i ≡ true))) (sym (cond-false (p a) (a ∷ filter p (range_with_len (a + 1) n)) _ no)) wider)
-      (cases_Bool (p a))
-    where
-      widen : (xs : List ℕ) (a n : ℕ) → All (λ i. (a + 1 ≤ i) × (i < a + 1 + n) × (p i ≡ true)) xs → All (λ i. (a ≤ i) × (i < a + suc n) × (p i ≡ true)) xs
-      widen [] a n all = tt
-      widen (x ∷ xs) a n all = ((omega arith, omega arith, all.0.2), widen xs a n all.1)
+      let wider = All-weaker (λ i. (a + 1 ≤ i) × (i < a + 1 + n) × (p i ≡ true)) (λ i. (a ≤ i) × (i < a + suc n) × (p i ≡ true)) (λ i h. (omega arith, omega arith, h.2)) (filter p (range_with_len (a + 1) n)) later in
+      cond_both (p a) (a ∷ filter p (range_with_len (a + 1) n)) (filter p (range_with_len (a + 1) n)) (All (λ i. (a ≤ i) × (i < a + suc n) × (p i ≡ true)))
+      (λ yes. ((omega arith, omega arith, yes), wider))
+      (λ no. wider)
 
   -- what passes is kept, and nothing else
   pub met_kept : (v n : ℕ) → met v (filter p (range_with_len 0 n)) ≡ (ltb v n && p v)
@@ -82,37 +76,7 @@ module _ (p : ℕ → Bool) where
       one_more : ((ltb v n && p v) || met v (cond (p n) (n ∷ []) [])) ≡ (ltb v (n + 1) && p v)
       one_more =
           ap (λ (b : Bool). (ltb v n && p v) || b) (single (p n))
-          ∙ ⊎_elim
-          (λ (same : v ≡ n).
-          let low = le-ltb v n (omega arith) in
-          let high = lt-ltb v (n + 1) (omega arith) in
-          let here = eq-eqb n v (sym same) in
-          ap (λ (b : Bool). (b && p v) || (p n && eqb n v)) low ∙ ap (λ (b : Bool). p n && b) here
-          ∙ and_true (p n) ∙ ap p (sym same) ∙ ap (λ (b : Bool). b && p v) (sym high))
-          (λ (apart : v ≡ n → ⊥).
-          ap (λ (b : Bool). (ltb v n && p v) || (p n && b)) (ne_eqb n v (λ e. apart (sym e)))
-          ∙ ap (λ (b : Bool). (ltb v n && p v) || b) (and_false (p n)) ∙ or_nothing (ltb v n && p v)
-          ∙ ap (λ (b : Bool). b && p v) (same_test apart))
-          (cases_eq v n)
-        where
-          and_true : (b : Bool) → (b && true) ≡ b
-          and_true true = refl
-          and_true false = refl
-
-          and_false : (b : Bool) → (b && false) ≡ false
-          and_false true = refl
-          and_false false = refl
-
-          or_nothing : (b : Bool) → (b || false) ≡ b
-          or_nothing true = refl
-          or_nothing false = refl
-
-          same_test : (v ≡ n → ⊥) → ltb v n ≡ ltb v (n + 1)
-          same_test apart =
-              ⊎_elim
-              (λ (low : v < n). lt-ltb v n low ∙ sym (lt-ltb v (n + 1) (omega arith)))
-              (λ (high : n ≤ v). le-ltb v n high ∙ sym (le-ltb v (n + 1) (omega arith)))
-              (cases_lt v n)
+          ∙ grind (arith, nat_tests)
 
 -- ---- a filter that keeps all, or nothing
 pub kept_all : (q : ℕ → Bool) (xs : List ℕ) → All (λ x. q x ≡ true) xs → filter q xs ≡ xs
@@ -242,11 +206,7 @@ module _ (f : Places) (n : ℕ) where
       ∙ here (f k k) (filter (λ i. f i k) (range_with_len (k + 1) (n - (k + 1)))) first.0 (kept_within (λ i. f i k) (n - (k + 1)) (k + 1))
     where
       ltb_shift : (a b c : ℕ) → b ≡ a + c → ltb a b ≡ ltb 0 c
-      ltb_shift a b c is =
-          ⊎_elim
-          (λ (more : 0 < c). lt-ltb a b (omega arith) ∙ sym (lt-ltb 0 c more))
-          (λ (none : c ≤ 0). le-ltb a b (omega arith) ∙ sym (le-ltb 0 c none))
-          (cases_lt 0 c)
+      ltb_shift a b c is = grind (arith, nat_tests)
 
       past : (xs : List ℕ) (rest : List Entry) → All (λ i. (k + 1 ≤ i) × (i < k + 1 + (n - (k + 1))) × (f i k ≡ true)) xs → (ltb 0 (length xs) && eqb (get_or (map (in_column k) xs ++ rest) 0 origin).row k) ≡ false
       past [] rest all = refl
