@@ -1,8 +1,8 @@
 -- The marks of the permuted matrix's entries, row by row. Assumes nothing.
-use Rattle.std.proofs.Common.{◌≡◌, ℕ, suc, ◌+◌, ◌*◌, ◌/◌, ◌%◌, ◌<◌, ◌≤◌, Bool, true, false, ◌&&◌, ◌||◌, eqb, List, [], ◌∷◌, ◌++◌, map, length, get_or, take, set, replicate, Some, None, vec_items, vec_len, Option, sym, refl, ap, ◌∙◌, subst, ⊎_elim, arith}
+use Rattle.std.proofs.Common.{◌≡◌, ℕ, suc, ◌+◌, ◌*◌, ◌/◌, ◌%◌, ◌<◌, ◌≤◌, Bool, true, false, ◌&&◌, ◌||◌, eqb, List, [], ◌∷◌, ◌++◌, map, length, get_or, take, set, Some, None, vec_items, vec_len, sym, refl, ap, ◌∙◌, subst, ⊎_elim, arith}
 use Rattle.std.proofs.lemmas.Nat.{mul-add-lt, div-mul-add, mod-mul-add, div_below, mod_below, div-add-mod'}
 use Rattle.std.proofs.lemmas.List.FromFn.{fill_by_all}
-use Rattle.std.proofs.lemmas.List.{map_more, length-set, get_or-set_same, get_or-set_other, get_or-replicate, length-replicate, take_all}
+use Rattle.std.proofs.lemmas.List.{map_more, length-set, get_or-set_same, get_or-set_other, take_all}
 use Rattle.std.proofs.lemmas.Bool.{cases_eq, eq-eqb, eqb-true, lt-ltb, and_from, and_parts, or_right, cases_Bool, cond-true}
 use Rattle.network.specs.declared.entries.Entry.{Entry}
 use Rattle.network.specs.declared.matrices.Permuted.{Permuted}
@@ -10,7 +10,7 @@ use Rattle.network.specs.Entries.{origin}
 use Rattle.network.specs.NetworkSheet.{pattern}
 use Rattle.network.specs.OrderSheet.{Orders, orders}
 use Rattle.network.specs.Permutations.{position}
-use Rattle.network.specs.Permuted.{has_entry, permuted, placed, placed_at, place_in, place_told, marks_of}
+use Rattle.network.specs.Permuted.{has_entry, permuted, placed, placed_at, place_in, marks_of}
 use Rattle.network.proofs.Permuting.{or_false, position_is}
 use Rattle.network.proofs.Placing.{p_size, q_size, row_inside, column_inside, row_stands, column_stands}
 
@@ -25,9 +25,6 @@ has_push (y ∷ xs) x r c = elim (at y r c) as (λ b. (b || has_entry (xs ++ x �
 pub record Marked (n : ℕ) (o : Orders) (xs : List Entry) (t : ℕ) (marks : List Bool) : Type 0 where
   pub whole : length marks ≡ n * n
   pub mark : (j : ℕ) → j < n * n → get_or marks j false ≡ has_entry (map (placed o) (take t xs)) (j / n) (j % n)
-
-pub marked_none : (n : ℕ) (o : Orders) (xs : List Entry) → Marked n o xs 0 (replicate (n * n) false)
-marked_none n o xs = record { whole = length-replicate (n * n) false; mark = λ j h. get_or-replicate (n * n) j false false h }
 
 module _ (n : ℕ) (o : Orders) (xs : List Entry) (t : ℕ) (marks : List Bool) (so_far : Marked n o xs t marks) (more : t < length xs)
     (row_in : (placed o (get_or xs t origin)).row < n) (column_in : (placed o (get_or xs t origin)).column < n) where
@@ -110,23 +107,13 @@ module _ (m : Permuted) where
   pub placed_inside : (t : ℕ) → t < length (vec_items m.network.entries) → ((placed (orders m.order) (get_or (vec_items m.network.entries) t origin)).row < m.network.n) × ((placed (orders m.order) (get_or (vec_items m.network.entries) t origin)).column < m.network.n)
   placed_inside t h = ((row_stands m _ (row_inside m t h)).0, (column_stands m _ (column_inside m t h)).0)
 
-  answered : (t : ℕ) → t < length (vec_items m.network.entries) → (o : Option Entry) → o ≡ place_told (pattern m.network) (orders m.order) t → o ≡ Some (placed_at (pattern m.network) (orders m.order) t)
-  answered t h o is = is ∙ cond-true _ _ _ (lt-ltb _ _ h)
-
-  -- the entry that is told is the one that was placed
-  pub told : (t : ℕ) (x : Entry) → t < length (vec_items m.network.entries) → Some x ≡ place_told (pattern m.network) (orders m.order) t → x ≡ placed_at (pattern m.network) (orders m.order) t
-  told t x h is = let e = answered t h (Some x) is in cc
-
-  -- the same, as the order tells it of an entry in a copy of the list
+  -- where the order says that an entry in a copy of the list stands
   pub placed_in : (xs : List Entry) (t : ℕ) → xs ≡ vec_items m.network.entries → t < length (vec_items m.network.entries) → place_in (vec_len m.order.rows.numbers) (orders m.order) (get_or xs t origin) ≡ Some (placed_at (pattern m.network) (orders m.order) t)
   placed_in xs t same h =
       let row : (get_or (vec_items m.network.entries) t origin).row < vec_len m.order.rows.numbers = omega (arith, row_inside m t h, p_size m) in
       let column : (get_or (vec_items m.network.entries) t origin).column < vec_len m.order.rows.numbers = omega (arith, column_inside m t h, p_size m) in
       ap (λ (ys : List Entry). place_in (vec_len m.order.rows.numbers) (orders m.order) (get_or ys t origin)) same
       ∙ cond-true _ _ _ (and_from _ _ (lt-ltb _ _ row) (lt-ltb _ _ column))
-
-  pub always : (t : ℕ) → t < length (vec_items m.network.entries) → None ≡ place_told (pattern m.network) (orders m.order) t → ⊥
-  always t h is = let e = answered t h None is in cc
 
   pub always_in : (xs : List Entry) (t : ℕ) → xs ≡ vec_items m.network.entries → t < length (vec_items m.network.entries) → None ≡ place_in (vec_len m.order.rows.numbers) (orders m.order) (get_or xs t origin) → ⊥
   always_in xs t same h is = let e = placed_in xs t same h in cc

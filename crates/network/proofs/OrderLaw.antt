@@ -4,13 +4,13 @@ use Rattle.std.proofs.lemmas.Bool.{ltb-true, ltb-false, eqb-true, eqb-false, and
 use Rattle.refusals.specs.declared.Refusal.{Refusal}
 use Rattle.refusals.specs.declared.Refusal.TheVariants.{OrderLength, OrderSize, OrderNumber}
 use Rattle.refusals.specs.Checks.{Verdict, passed, unless, bind, each_from}
-use Rattle.network.specs.OrderSheet.{number_verdict, numbers_checked, size_checked, order_checked}
+use Rattle.network.specs.OrderSheet.{number_verdict, numbers_checked, order_checked}
 use Rattle.network.specs.Permutations.{met, in_turn, Distinct}
 use Rattle.network.specs.Words.{word, words}
 use Rattle.refusals.specs.Judging.{turn}
 use Rattle.network.specs.Wrong.{Misnumbered, OrderWrong}
 use Rattle.network.specs.Wrong.OrderWrong.{long, size, row_number, column_number}
-use Rattle.refusals.proofs.Checking.{unless_passed, bind_passed, each_from_passed}
+use Rattle.refusals.proofs.Checking.{unless_passed, each_from_passed}
 use Rattle.refusals.proofs.FirstWrong.{From, from_unless, from_late, bind_unless, bind_last, Told, told_from}
 use Rattle.network.proofs.OrderSteps.{length_words}
 use Rattle.network.proofs.Permuting.{met_here, met_taken}
@@ -20,23 +20,6 @@ pub numbers_passed : (n base : ℕ) (xs : List ℕ) → length xs ≡ n → numb
 numbers_passed n base xs many all i inside =
     let here = (unless_passed (in_turn n xs i) (OrderNumber (base + i)) passed tt (each_from_passed (number_verdict n xs base) 0 n all i (omega arith) (omega arith))).0 in
     subst (λ (m : ℕ). in_turn m xs i ≡ true) (sym many) here
-
-pub record Passed (n : ℕ) (bytes : List ℕ) : Type 0 where
-  pub whole : length bytes ≡ 2 + 4 * n
-  pub rows : Distinct (words bytes 2 n)
-  pub columns : Distinct (words bytes (2 + 2 * n) n)
-
-pub order_passed : (n : ℕ) (bytes : List ℕ) → order_checked n bytes ≡ passed → Passed n bytes
-order_passed n bytes all =
-    let lists = λ (x : Unit {0}). bind (numbers_checked n (words bytes 2 n) 0) (λ _. numbers_checked n (words bytes (2 + 2 * n) n) n) in
-    let two = bind_passed (size_checked n bytes) lists tt all in
-    let a = unless_passed (eqb (length bytes) (2 + 4 * n)) (OrderLength (length bytes)) (unless (eqb (word bytes 0) n) (OrderSize (word bytes 0)) passed) tt two.1 in
-    let c = bind_passed (numbers_checked n (words bytes 2 n) 0) (λ _. numbers_checked n (words bytes (2 + 2 * n) n) n) tt two.2 in
-    record {
-      whole = eqb-true _ _ a.0;
-      rows = numbers_passed n 0 (words bytes 2 n) (length_words bytes 2 n) c.1;
-      columns = numbers_passed n n (words bytes (2 + 2 * n) n) (length_words bytes (2 + 2 * n) n) c.2;
-    }
 
 -- ---- the test of a number and what is wrong with it
 misnumbered : (n : ℕ) (xs : List ℕ) (i : ℕ) → in_turn n xs i ≡ false → Misnumbered n xs i

@@ -25,10 +25,6 @@ pub bind_passed : {X Y : Type 0} (first : Result X Refusal) (rest : X → Result
 bind_passed (Ok x) rest y e = (x, refl, e)
 bind_passed (Err refusal) rest y e = cc
 
-pub bind_told : {X : Type 0} (v : Verdict) (x y : X) → bind v (λ _. Ok y) ≡ Ok x → x ≡ y
-bind_told {X} (Ok tt) x y e = cc
-bind_told {X} (Err refusal) x y e = cc
-
 only : (v : Verdict) (x : Unit {0}) → v ≡ Ok x → v ≡ passed
 only v tt e = e
 

@@ -1,8 +1,8 @@
 -- The check that the filled pattern is not too large, column by column. Assumes nothing.
-use Rattle.std.proofs.Common.{◌≡◌, ℕ, ◌+◌, ◌<◌, ◌≤◌, Bool, Ok, Err, sym, refl, ap, subst, inl, inr}
+use Rattle.std.proofs.Common.{◌≡◌, ℕ, ◌+◌, ◌<◌, ◌≤◌, Bool, Err, sym, refl, ap, subst, inl}
 use Rattle.std.proofs.lemmas.Bool.{le-leb, lt-leb}
 use Rattle.refusals.specs.declared.Refusal.{Refusal}
-use Rattle.refusals.specs.declared.Refusal.TheVariants.{OutOfMemory, FillLimit}
+use Rattle.refusals.specs.declared.Refusal.TheVariants.{FillLimit}
 use Rattle.refusals.specs.Checks.{Verdict, passed, unless}
 use Rattle.elimination.specs.Fill.{Places}
 use Rattle.elimination.specs.Plans.{start, limit_verdict}
@@ -14,14 +14,5 @@ within_limit f n k few = ap (λ (b : Bool). unless b (FillLimit k) passed) (le-l
 pub past_limit : (f : Places) (n k : ℕ) → 8192 < start f n (k + 1) → limit_verdict f n k ≡ Err (FillLimit k)
 past_limit f n k many = ap (λ (b : Bool). unless b (FillLimit k) passed) (lt-leb _ _ many)
 
--- ---- answers of a call that tries
-module _ {X : Type 0} (P : X → Type 0) (v : Verdict) where
-  pub tries_ok : (x : X) → v ≡ passed → P x → Tries v P (Ok x)
-  tries_ok x is h = subst (λ (w : Verdict). Tries w P (Ok x)) (sym is) h
-
-  pub tries_refused : (refusal : Refusal) → v ≡ Err refusal → Tries v P (Err refusal)
-  tries_refused refusal is = subst (λ (w : Verdict). Tries w P (Err refusal)) (sym is) (inl refl)
-
-pub tries_wanting : {X : Type 0} (P : X → Type 0) (v : Verdict) → Tries v P (Err OutOfMemory)
-tries_wanting P (Ok x) = refl
-tries_wanting P (Err refusal) = inr refl
+pub tries_refused : {X : Type 0} (P : X → Type 0) (v : Verdict) (refusal : Refusal) → v ≡ Err refusal → Tries v P (Err refusal)
+tries_refused P v refusal is = subst (λ (w : Verdict). Tries w P (Err refusal)) (sym is) (inl refl)

@@ -3,7 +3,7 @@ ghost use Rattle.std.specs.Prelude.{◌≡◌, ◌<◌, map, length, vec_len, If
 ghost use Rattle.std.specs.List.{range_with_len};
 ghost use Rattle.network.specs.NetworkSheet.{pattern};
 ghost use Rattle.network.specs.OrderSheet.{orders};
-ghost use Rattle.network.specs.Permuted.{place_told};
+ghost use Rattle.network.specs.Permuted.{place_in};
 ghost use Rattle.elimination.specs.Plans.{diagonals_checked, entry_place, levels_of, stored_place};
 ghost use Rattle.symbolic.specs.Filling.{HoldsAll, filled_of};
 
@@ -52,11 +52,11 @@ impl FilledMatrix<'_> {
         column.start + entries_above(self.filled.entries_of(column), entry.row)
     }
 
-    // The place of entry t of the network sheet, if there is such an entry.
-    fn place_of_entry(&self, t: usize) -> Option<usize>
-        ensures { let m = self.now.matrix.now in result ≡ option_map (λ place. stored_place (filled_of m) m.network.n place.row place.column) (place_told (pattern m.network) (orders m.order) t) }
+    // The place of an entry of the network sheet, if it lies inside.
+    fn place_of_entry(&self, entry: Entry) -> Option<usize>
+        ensures { let m = self.now.matrix.now in result ≡ option_map (λ place. stored_place (filled_of m) m.network.n place.row place.column) (place_in (vec_len m.order.rows.numbers) (orders m.order) entry) }
     {
-        let place = self.matrix.place(t)?;
+        let place = self.matrix.order().place(entry)?;
         Some(self.place_of(place))
     }
 
@@ -64,8 +64,11 @@ impl FilledMatrix<'_> {
     pub(crate) fn find_places(&self, heap: Global) -> Result<Vec<usize>, AllocError>
         ensures { let m = self.now.matrix.now in IfOk result (λ v. v.items ≡ map (entry_place (pattern m.network) (orders m.order)) (range_with_len 0 (vec_len m.network.entries))) }
     {
-        (0..self.matrix.network().entries().len())
-            .filter_map(|t| self.place_of_entry(t))
+        self.matrix
+            .network()
+            .entries()
+            .iter()
+            .filter_map(|entry| self.place_of_entry(*entry))
             .collect(heap)
     }
 

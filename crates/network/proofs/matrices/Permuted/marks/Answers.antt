@@ -3,7 +3,7 @@ use Rattle.std.specs.Vec.{with_items}
 use Rattle.std.proofs.lemmas.List.{with_items_is, length-set}
 use Rattle.std.specs.declared.alloc.Global.{Global}
 use Rattle.network.specs.OrderSheet.{orders}
-use Rattle.network.proofs.Marking.{Marked, marked_none, step, always_in, end}
+use Rattle.network.proofs.Marking.{Marked, step, always_in, end}
 use Rattle.network.proofs.matrices.Permuted.marks.Goals as goal
 use Rattle.network.proofs.matrices.Permuted.marks.Goals.{in-Some, in_default}
 
