@@ -35,7 +35,7 @@ fn count_marked(marks: &[bool]) -> usize
     marks.iter().filter(|marked| **marked).count()
 }
 
-// Adds the marked rows of column k.
+// Adds the marked rows of column k. A row is narrowed by a cast: `try_from` would add a branch that is never taken.
 fn gather(entries: &mut Vec<Entry>, marks: &[bool], k: u16) -> Result<(), AllocError>
     requires { length marks.now ≤ 512 }
     ensures items { OnOk result (entries.new.items ≡ entries.old.items ++ map (in_column k) (marked_rows marks.now)) }
@@ -72,6 +72,7 @@ impl Filled {
         ensures { OnOk result ((f : Places) (n : ℕ) → marks.now ≡ marks_in f n k → Holds f n k self.old → Holds f n (k + 1) self.new) }
     {
         let start = self.entries.len();
+        // by a cast, as the rows
         gather(&mut self.entries, marks, k as u16)?;
         self.columns.push(Column {
             start,

@@ -6,6 +6,7 @@ use super::super::arithmetic::Scalar;
 use super::Check;
 use super::inverses::inverse_at;
 
+// By a cast: `try_from` would add a branch that is never taken.
 fn remainder(number: u32) -> u8
     ensures { result ≡ number % 251 }
 {
