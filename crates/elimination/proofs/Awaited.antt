@@ -5,7 +5,7 @@ use Rattle.elimination.specs.Fill.{Places}
 use Rattle.elimination.specs.Laws.{Awaits, AwaitedLaw}
 use Rattle.elimination.specs.Plans.{awaited_by}
 use Rattle.elimination.proofs.Levels.{met_awaited}
-use Rattle.elimination.proofs.Ordered.{ordered_getD, kept_rises}
+use Rattle.elimination.proofs.Ordered.{ordered_get_or, kept_rises}
 use Rattle.elimination.proofs.Storing.{kept_within}
 
 only : (f : Places) (k t : ℕ) → t < length (awaited_by f k) → Awaits f k (get_or (awaited_by f k) t 0)
@@ -17,5 +17,5 @@ pub awaited_law : (f : Places) (k : ℕ) → AwaitedLaw f k (awaited_by f k)
 awaited_law f k = record {
   only = only f k;
   all = met_awaited f k;
-  rising = λ t inside. ordered_getD ◌<◌ (awaited_by f k) 0 (kept_rises (λ i. f i k) k) t (t + 1) (omega arith) inside;
+  rising = λ t inside. ordered_get_or ◌<◌ (awaited_by f k) 0 (kept_rises (λ i. f i k) k) t (t + 1) (omega arith) inside;
 }

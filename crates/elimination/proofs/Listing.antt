@@ -9,7 +9,7 @@ use Rattle.network.specs.Entries.{after, origin}
 use Rattle.elimination.specs.Fill.{Places}
 use Rattle.elimination.specs.Laws.{Listed}
 use Rattle.elimination.specs.Plans.{rows_of, in_column, stored, start, stored_place}
-use Rattle.elimination.proofs.Ordered.{Ordered, ordered_append, ordered_among, ordered_map, ordered_getD, kept_rises}
+use Rattle.elimination.proofs.Ordered.{Ordered, ordered_append, ordered_among, ordered_map, ordered_get_or, kept_rises}
 use Rattle.elimination.proofs.Storing.{kept_more, kept_split, kept_within, stored_more, stored_splits}
 
 abbrev Follows : Entry → Entry → Type 0
@@ -95,5 +95,5 @@ module _ (f : Places) (n : ℕ) where
   listed = record {
     stands = stands;
     only = λ t inside. All-get_or (Inside n) (stored f n n) t origin inside (all_inside n);
-    rising = λ t inside. ordered_getD Follows (stored f n n) origin (stored_ordered n) t (t + 1) (omega arith) inside;
+    rising = λ t inside. ordered_get_or Follows (stored f n n) origin (stored_ordered n) t (t + 1) (omega arith) inside;
   }

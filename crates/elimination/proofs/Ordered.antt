@@ -25,11 +25,11 @@ module _ {X : Type 0} (R : X → X → Type 0) where
   ordered_map f [] o = tt
   ordered_map f (y ∷ ys) o = (All-map (R (f y)) f ys o.0, ordered_map f ys o.1)
 
-  pub ordered_getD : (xs : List X) (d : X) → Ordered R xs → (s t : ℕ) → s < t → t < length xs → R (get_or xs s d) (get_or xs t d)
-  ordered_getD [] d o s t less inside = absurd (omega arith)
-  ordered_getD (x ∷ xs) d o s zero less inside = absurd (omega arith)
-  ordered_getD (x ∷ xs) d o zero (suc t) less inside = All-get_or (R x) xs t d (omega arith) o.0
-  ordered_getD (x ∷ xs) d o (suc s) (suc t) less inside = ordered_getD xs d o.1 s t (omega arith) (omega arith)
+  pub ordered_get_or : (xs : List X) (d : X) → Ordered R xs → (s t : ℕ) → s < t → t < length xs → R (get_or xs s d) (get_or xs t d)
+  ordered_get_or [] d o s t less inside = absurd (omega arith)
+  ordered_get_or (x ∷ xs) d o s zero less inside = absurd (omega arith)
+  ordered_get_or (x ∷ xs) d o zero (suc t) less inside = All-get_or (R x) xs t d (omega arith) o.0
+  ordered_get_or (x ∷ xs) d o (suc s) (suc t) less inside = ordered_get_or xs d o.1 s t (omega arith) (omega arith)
 
   -- over elements of which P holds, another relation
   pub ordered_among : (P : X → Type 0) (S : X → X → Type 0) → ((x y : X) → P x → P y → R x y → S x y) → (xs : List X) → All P xs → Ordered R xs → Ordered S xs
@@ -71,6 +71,6 @@ ordered_distinct R never xs o below i inside =
     (not_from_false (met (get_or xs i 0) (take i xs)) (⊎_elim
     (λ (on : met (get_or xs i 0) (take i xs) ≡ true).
     let at = met_taken xs i (get_or xs i 0) on in
-    absurd (never (get_or xs i 0) (subst (λ (y : ℕ). R y (get_or xs i 0)) at.2 (ordered_getD R xs 0 o at.0 i at.1 inside))))
+    absurd (never (get_or xs i 0) (subst (λ (y : ℕ). R y (get_or xs i 0)) at.2 (ordered_get_or R xs 0 o at.0 i at.1 inside))))
     (λ (off : met (get_or xs i 0) (take i xs) ≡ false). off)
     (cases_Bool (met (get_or xs i 0) (take i xs)))))

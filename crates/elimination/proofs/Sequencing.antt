@@ -9,7 +9,7 @@ use Rattle.std.proofs.lemmas.Bool.Decides.{nat_tests}
 use Rattle.network.proofs.Permuting.{stands}
 use Rattle.elimination.specs.Laws.{Before, Sequenced}
 use Rattle.elimination.specs.Plans.{of_level, by_level, sequence_of}
-use Rattle.elimination.proofs.Ordered.{Ordered, ordered_append, ordered_among, ordered_getD, ordered_position, ordered_distinct, kept_rises}
+use Rattle.elimination.proofs.Ordered.{Ordered, ordered_append, ordered_among, ordered_get_or, ordered_position, ordered_distinct, kept_rises}
 use Rattle.elimination.proofs.Storing.{kept_within, kept_same}
 
 -- ---- how many lie below a bound
@@ -111,5 +111,5 @@ module _ (levels : List ℕ) where
           once = λ s inside.
               let inside' : s < length xs = omega (arith, sequence_long) in
               ((All-get_or (Within (length levels)) xs s 0 inside' (levels_within (length levels))).0, ordered_position (Before levels) never_itself xs o s inside');
-          rising = λ s t less inside. ordered_getD (Before levels) xs 0 o s t less (omega (arith, sequence_long));
+          rising = λ s t less inside. ordered_get_or (Before levels) xs 0 o s t less (omega (arith, sequence_long));
         }

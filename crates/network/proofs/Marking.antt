@@ -1,5 +1,5 @@
 -- The marks of the permuted matrix's entries, row by row. Assumes nothing.
-use Rattle.std.proofs.Common.{◌≡◌, ℕ, suc, ◌+◌, ◌*◌, ◌/◌, ◌%◌, ◌<◌, ◌≤◌, Bool, true, false, ◌&&◌, ◌||◌, eqb, List, [], ◌∷◌, ◌++◌, map, length, get_or, take, set, Some, None, vec_items, vec_len, sym, refl, ap, ◌∙◌, subst, ⊎_elim, arith}
+use Rattle.std.proofs.Common.{◌≡◌, ℕ, suc, ◌+◌, ◌*◌, ◌/◌, ◌%◌, ◌<◌, ◌≤◌, Bool, true, false, ◌&&◌, ◌||◌, eqb, List, [], ◌∷◌, ◌++◌, map, length, get_or, take, set, Some, None, vec_items, vec_len, Option, sym, refl, ap, ◌∙◌, subst, ⊎_elim, arith}
 use Rattle.std.proofs.lemmas.Nat.{mul-add-lt, div-mul-add, mod-mul-add, div_below, mod_below, div-add-mod'}
 use Rattle.std.proofs.lemmas.List.FromFn.{fill_by_all}
 use Rattle.std.proofs.lemmas.List.{map_more, length-set, get_or-set_same, get_or-set_other, take_all}
@@ -10,7 +10,7 @@ use Rattle.network.specs.Entries.{origin}
 use Rattle.network.specs.NetworkSheet.{pattern}
 use Rattle.network.specs.OrderSheet.{Orders, orders}
 use Rattle.network.specs.Permutations.{position}
-use Rattle.network.specs.Permuted.{has_entry, permuted, placed, placed_at, place_in, marks_of}
+use Rattle.network.specs.Permuted.{has_entry, permuted, placed, placed_at, place_in, place_told, marks_of}
 use Rattle.network.proofs.Permuting.{or_false, position_is}
 use Rattle.network.proofs.Placing.{p_size, q_size, row_inside, column_inside, row_stands, column_stands}
 
@@ -106,6 +106,13 @@ module _ (m : Permuted) where
   -- the place of an entry lies inside
   pub placed_inside : (t : ℕ) → t < length (vec_items m.network.entries) → ((placed (orders m.order) (get_or (vec_items m.network.entries) t origin)).row < m.network.n) × ((placed (orders m.order) (get_or (vec_items m.network.entries) t origin)).column < m.network.n)
   placed_inside t h = ((row_stands m _ (row_inside m t h)).0, (column_stands m _ (column_inside m t h)).0)
+
+  answered : (t : ℕ) → t < length (vec_items m.network.entries) → (o : Option Entry) → o ≡ place_told (pattern m.network) (orders m.order) t → o ≡ Some (placed_at (pattern m.network) (orders m.order) t)
+  answered t h o is = is ∙ cond-true _ _ _ (lt-ltb _ _ h)
+
+  -- the entry that is told is the one that was placed
+  pub told : (t : ℕ) (x : Entry) → t < length (vec_items m.network.entries) → Some x ≡ place_told (pattern m.network) (orders m.order) t → x ≡ placed_at (pattern m.network) (orders m.order) t
+  told t x h is = let e = answered t h (Some x) is in cc
 
   -- where the order says that an entry in a copy of the list stands
   pub placed_in : (xs : List Entry) (t : ℕ) → xs ≡ vec_items m.network.entries → t < length (vec_items m.network.entries) → place_in (vec_len m.order.rows.numbers) (orders m.order) (get_or xs t origin) ≡ Some (placed_at (pattern m.network) (orders m.order) t)

@@ -1,4 +1,4 @@
--- Where a column stands among the filled entries. Assumes nothing.
+-- Where a column stands among the filled entries, in the words of the definitions, which cannot name a type of code. Assumes nothing.
 use Rattle.elimination.specs.Storage.{Bounds}
 use Rattle.symbolic.specs.declared.patterns.Column.{Column}
 

@@ -17,12 +17,12 @@ use std::alloc::Global;
 // at most so many places are filled
 pub const MAX_FILLED: usize = 8192;
 
-// Marks the rows of a column below row j.
-fn spread(marks: &mut [bool], column: &[Entry], j: usize)
-    requires { All (λ entry. entry.row < length marks.old) column.now }
-    ensures { (i : ℕ) → i < length marks.old → slice_index_or marks.new i false ≡ (slice_index_or marks.old i false || (nat_lt j i && met i (map row_of column.now))) }
+// Marks those rows of a column's entries that lie below row j.
+fn spread(marks: &mut [bool], entries: &[Entry], j: usize)
+    requires { All (λ entry. entry.row < length marks.old) entries.now }
+    ensures { (i : ℕ) → i < length marks.old → slice_index_or marks.new i false ≡ (slice_index_or marks.old i false || (nat_lt j i && met i (map row_of entries.now))) }
 {
-    for entry in column {
+    for entry in entries {
         let i = usize::from(entry.row);
         if i > j {
             marks[i] = true;
@@ -39,6 +39,7 @@ fn fill_column(marks: &mut [bool], table: &Table<'_>, filled: &Filled, k: usize)
 {
     table.copy_column(k, marks);
     for (j, column) in filled.columns.iter().enumerate() {
+        // the marks change on the way, so each is read where it stands
         if marks[j] {
             spread(marks, filled.entries_of(*column), j);
         }

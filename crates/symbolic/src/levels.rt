@@ -44,7 +44,7 @@ pub(crate) fn find_sequence(heap: Global, levels: &[u16]) -> Result<Vec<u16>, Al
     Ok(sequence)
 }
 
-// How many columns a level has. An iterator through them for this and for add_level would be longer than both.
+// How many columns a level has. An iterator through them for this and for add_level would be longer than both, and a stable sort by level in place of add_level would need that two orders of one list are the same.
 fn width(levels: &[u16], level: usize) -> usize
     ensures { result ≡ length (of_level levels.now level) }
 {

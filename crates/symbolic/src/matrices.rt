@@ -1,4 +1,4 @@
-// A permuted matrix with its filled pattern: the levels of its columns, the places of its entries and of its diagonal.
+// A permuted matrix with its filled pattern: the levels of its columns, the places of its entries, and whether its diagonal is filled.
 ghost use Rattle.std.specs.Prelude.{◌≡◌, ◌<◌, map, length, vec_len, IfOk, option_map, nat_lt, filter};
 ghost use Rattle.std.specs.List.{range_with_len};
 ghost use Rattle.network.specs.NetworkSheet.{pattern};
@@ -15,28 +15,27 @@ use std::alloc::{AllocError, Global};
 
 // A permuted matrix and the filled places that its entries come to.
 #[derive(Drop)]
-pub(crate) struct FilledMatrix<'a> {
-    pub(crate) matrix: &'a Permuted,
+pub(crate) struct FilledMatrix {
+    pub(crate) matrix: Permuted,
     pub(crate) filled: Filled,
-    ghost holds: { HoldsAll matrix.now filled },
+    ghost holds: { HoldsAll matrix filled },
 }
 
-// How many entries of a column stand above a row.
-fn entries_above(column: &[Entry], row: u16) -> usize
-    ensures { result ≡ length (filter (λ entry. nat_lt entry.row row) column.now) }
+// How many of a column's entries stand above a row.
+fn entries_above(entries: &[Entry], row: u16) -> usize
+    ensures { result ≡ length (filter (λ entry. nat_lt entry.row row) entries.now) }
 {
-    column.iter().filter(|entry| entry.row < row).count()
+    entries.iter().filter(|entry| entry.row < row).count()
 }
 
-impl FilledMatrix<'_> {
+impl FilledMatrix {
     // The level of each column, from the first on.
     pub(crate) fn find_levels(&self, heap: Global) -> Result<Vec<u16>, AllocError>
-        ensures { let m = self.now.matrix.now in IfOk result (λ v. v.items ≡ levels_of (filled_of m) m.network.n) }
+        ensures { let m = self.now.matrix in IfOk result (λ v. v.items ≡ levels_of (filled_of m) m.network.n) }
     {
         let mut levels = Vec::new(heap);
         for column in &self.filled.columns {
-            let awaited = &self.filled.entries[column.start..column.diagonal];
-            let level = level_after(&levels, awaited);
+            let level = level_after(&levels, self.filled.awaited_of(*column));
             levels.push(level)?;
         }
         Ok(levels)
@@ -44,9 +43,9 @@ impl FilledMatrix<'_> {
 
     // The place of an entry among the filled ones.
     fn place_of(&self, entry: Entry) -> usize
-        requires row { entry.row < self.now.matrix.now.network.n }
-        requires column { entry.column < self.now.matrix.now.network.n }
-        ensures { let m = self.now.matrix.now in result ≡ stored_place (filled_of m) m.network.n entry.row entry.column }
+        requires row { entry.row < self.now.matrix.network.n }
+        requires column { entry.column < self.now.matrix.network.n }
+        ensures { let m = self.now.matrix in result ≡ stored_place (filled_of m) m.network.n entry.row entry.column }
     {
         let column = self.filled.columns[usize::from(entry.column)];
         column.start + entries_above(self.filled.entries_of(column), entry.row)
@@ -54,7 +53,7 @@ impl FilledMatrix<'_> {
 
     // The place of an entry of the network sheet, if it lies inside.
     fn place_of_entry(&self, entry: Entry) -> Option<usize>
-        ensures { let m = self.now.matrix.now in result ≡ option_map (λ place. stored_place (filled_of m) m.network.n place.row place.column) (place_in (vec_len m.order.rows.numbers) (orders m.order) entry) }
+        ensures { let m = self.now.matrix in result ≡ option_map (λ place. stored_place (filled_of m) m.network.n place.row place.column) (place_in (vec_len m.order.rows.numbers) (orders m.order) entry) }
     {
         let place = self.matrix.order().place(entry)?;
         Some(self.place_of(place))
@@ -62,7 +61,7 @@ impl FilledMatrix<'_> {
 
     // The place of each entry of the network sheet.
     pub(crate) fn find_places(&self, heap: Global) -> Result<Vec<usize>, AllocError>
-        ensures { let m = self.now.matrix.now in IfOk result (λ v. v.items ≡ map (entry_place (pattern m.network) (orders m.order)) (range_with_len 0 (vec_len m.network.entries))) }
+        ensures { let m = self.now.matrix in IfOk result (λ v. v.items ≡ map (entry_place (pattern m.network) (orders m.order)) (range_with_len 0 (vec_len m.network.entries))) }
     {
         self.matrix
             .network()
@@ -74,7 +73,7 @@ impl FilledMatrix<'_> {
 
     // Every diagonal place has to be filled.
     pub(crate) fn check_diagonals(&self) -> Result<(), Refusal>
-        ensures { let m = self.now.matrix.now in result ≡ diagonals_checked (filled_of m) m.network.n }
+        ensures { let m = self.now.matrix in result ≡ diagonals_checked (filled_of m) m.network.n }
     {
         for (k, column) in self.filled.columns.iter().enumerate() {
             if !self.filled.has_diagonal(*column, k) {

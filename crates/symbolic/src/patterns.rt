@@ -12,14 +12,15 @@ use std::alloc::{AllocError, Global};
 #[derive(Clone, Copy)]
 pub(crate) struct Column {
     pub(crate) start: usize,
-    // the place of its diagonal, filled or not; the rows of the entries before it are the columns that it awaits
+    // the place of its diagonal, filled or not; the rows of the entries from start to it are the columns that it awaits
     pub(crate) diagonal: usize,
+    // the start of the next column; kept here too, so that a column is a value of its own
     pub(crate) end: usize,
     ghost above: { start ≤ diagonal },
     ghost below: { diagonal ≤ end },
 }
 
-// The filled places of the columns so far.
+// The filled places of the columns so far. That it holds them is no ghost field: where memory is wanting, a part of a column's entries may stay.
 #[derive(Drop)]
 pub(crate) struct Filled {
     // the filled entries, by column, then by row
@@ -88,6 +89,14 @@ impl Filled {
         ensures { result.now ≡ slice_range self.now.entries.items column.start column.end }
     {
         &self.entries[column.start..column.end]
+    }
+
+    // Its entries above the diagonal: their rows are the columns that it awaits.
+    pub(crate) fn awaited_of(&self, column: Column) -> &[Entry]
+        requires { column.end ≤ vec_len self.now.entries }
+        ensures { result.now ≡ slice_range self.now.entries.items column.start column.diagonal }
+    {
+        &self.entries[column.start..column.diagonal]
     }
 
     // Whether the diagonal place of column k is filled: the column goes on there with its own number.

@@ -8,7 +8,7 @@ use Rattle.symbolic.proofs.fills.spread.Goals.{then-i-j, else-i-j}
 
 pub loop-entry-preserved : goal.loop-entry-preserved
 loop-entry-preserved c =
-    let column = c.args.column.now in
+    let column = c.args.entries.now in
     let t = c.loop-entry.entry-index in
     let more : t < length (map row_of column) = omega (arith, length-map column row_of) in
     let row : c.from-i.result ≡ get_or (map row_of column) t 0 = c.from-i.ensures ∙ sym (get_or-map row_of column t origin 0 c.loop-entry-test.true) in

@@ -4,4 +4,4 @@ use Rattle.symbolic.proofs.Spreading.{Spread}
 use Rattle.symbolic.proofs.fills.spread.Given as goal
 
 abbrev pub invariant-loop-entry : goal.invariant-loop-entry
-invariant-loop-entry l = Spread l.j (take l.entry-index (map row_of l.column)) l.initial.marks l.marks
+invariant-loop-entry l = Spread l.j (take l.entry-index (map row_of l.entries)) l.initial.marks l.marks

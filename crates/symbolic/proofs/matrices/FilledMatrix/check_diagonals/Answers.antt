@@ -10,8 +10,8 @@ use Rattle.symbolic.proofs.matrices.FilledMatrix.check_diagonals.Goals as goal
 pub returns-then-not-has_diagonal : goal.returns-then-not-has_diagonal
 returns-then-not-has_diagonal c =
     let x = c.args.self.now in
-    let n = x.matrix.now.network.n in
-    let f = filled_of x.matrix.now in
+    let n = x.matrix.network.n in
+    let f = filled_of x.matrix in
     let k = c.loop-k.k in
     let columns = c.deref-column-items.result.now in
     let lent = c.deref-column-items.ensures.value in
@@ -22,8 +22,8 @@ returns-then-not-has_diagonal c =
 pub loop-k-preserved : goal.loop-k-preserved
 loop-k-preserved c =
     let x = c.args.self.now in
-    let n = x.matrix.now.network.n in
-    let f = filled_of x.matrix.now in
+    let n = x.matrix.network.n in
+    let f = filled_of x.matrix in
     let k = c.loop-k.k in
     let columns = c.deref-column-items.result.now in
     let lent = c.deref-column-items.ensures.value in
@@ -34,8 +34,8 @@ loop-k-preserved c =
 pub returns : goal.returns
 returns c =
     let x = c.args.self.now in
-    let n = x.matrix.now.network.n in
-    let f = filled_of x.matrix.now in
+    let n = x.matrix.network.n in
+    let f = filled_of x.matrix in
     let lent = c.deref-column-items.ensures.value in
     let done : n - c.loop-k.k ≡ 0 = omega (arith, columns_long f n n x.filled x.holds, ap length lent, c.loop-k-test.false) in
     sym (ap (each_from (diagonal_verdict f) c.loop-k.k) done) ∙ c.loop-k.invariant

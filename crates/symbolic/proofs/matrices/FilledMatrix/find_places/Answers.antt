@@ -25,7 +25,7 @@ kept g h (x ∷ xs) a gives =
 
 pub returns : goal.returns
 returns c =
-    let m = c.args.self.now.matrix.now in
+    let m = c.args.self.now.matrix in
     let entries = vec_items m.network.entries in
     let place : Entry → ℕ = λ x. stored_place (filled_of m) m.network.n x.row x.column in
     let told : Entry → Option ℕ = λ x. option_map place (place_in (vec_len m.order.rows.numbers) (orders m.order) x) in

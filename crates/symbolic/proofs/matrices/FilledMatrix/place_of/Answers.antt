@@ -19,23 +19,23 @@ above_are f n i k xs inside is =
 pub index-column-requires : goal.index-column-requires
 index-column-requires c =
     let x = c.args.self.now in
-    let n = x.matrix.now.network.n in
-    omega (arith, columns_long (filled_of x.matrix.now) n n x.filled x.holds, x.filled.columns.ok.0, c.from.ensures, c.requires.column)
+    let n = x.matrix.network.n in
+    omega (arith, columns_long (filled_of x.matrix) n n x.filled x.holds, x.filled.columns.ok.0, c.from.ensures, c.requires.column)
 
 pub entries_of-requires : goal.entries_of-requires
 entries_of-requires c =
     let x = c.args.self.now in
-    let n = x.matrix.now.network.n in
+    let n = x.matrix.network.n in
     let column = c.index-column.result.now in
     let k = c.from.result in
-    let more : k < length (vec_items x.filled.columns) = omega (arith, columns_long (filled_of x.matrix.now) n n x.filled x.holds, c.from.ensures, c.requires.column) in
+    let more : k < length (vec_items x.filled.columns) = omega (arith, columns_long (filled_of x.matrix) n n x.filled x.holds, c.from.ensures, c.requires.column) in
     omega (arith, x.filled.inside k column more, ap (λ (at : Column). at.end) c.index-column.ensures)
 
 pub returns : goal.returns
 returns c =
     let x = c.args.self.now in
-    let n = x.matrix.now.network.n in
-    let f = filled_of x.matrix.now in
+    let n = x.matrix.network.n in
+    let f = filled_of x.matrix in
     let i = c.args.entry.row in
     let k = c.from.result in
     let columns = vec_items x.filled.columns in
@@ -48,8 +48,8 @@ returns c =
 pub overflow_add-result : goal.overflow_add-result
 overflow_add-result c =
     let x = c.args.self.now in
-    let n = x.matrix.now.network.n in
-    let f = filled_of x.matrix.now in
+    let n = x.matrix.network.n in
+    let f = filled_of x.matrix in
     let i = c.args.entry.row in
     let k = c.args.entry.column in
     omega (arith, returns c, place_within f n i k (omega arith), start_rises f n n (k + 1) (omega arith), entries_long f n n x.filled x.holds, x.filled.entries.small)
