@@ -19,7 +19,7 @@ pub(crate) fn level_after(levels: &[u16], awaited: &[Entry]) -> u16
         .unwrap_or(0)
 }
 
-// Adds the columns of one level, rising. A column is narrowed by a cast: `try_from` would add a branch that is never taken.
+// Adds the columns of one level, rising. A column is narrowed by a cast: `try_from` would add a branch that is never taken, and `(0u16..).zip(levels)` is no plainer than `enumerate`.
 fn add_level(sequence: &mut Vec<u16>, levels: &[u16], level: usize) -> Result<(), AllocError>
     requires { length levels.now ≤ 512 }
     ensures { OnOk result (sequence.new.items ≡ sequence.old.items ++ of_level levels.now level) }

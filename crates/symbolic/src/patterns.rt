@@ -36,7 +36,7 @@ fn count_marked(marks: &[bool]) -> usize
     marks.iter().filter(|marked| **marked).count()
 }
 
-// Adds the marked rows of column k. A row is narrowed by a cast: `try_from` would add a branch that is never taken.
+// Adds the marked rows of column k. A row is narrowed by a cast: `try_from` would add a branch that is never taken, and `(0u16..).zip(marks)` is no plainer than `enumerate`.
 fn gather(entries: &mut Vec<Entry>, marks: &[bool], k: u16) -> Result<(), AllocError>
     requires { length marks.now ≤ 512 }
     ensures items { OnOk result (entries.new.items ≡ entries.old.items ++ map (in_column k) (marked_rows marks.now)) }

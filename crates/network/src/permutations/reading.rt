@@ -62,7 +62,7 @@ fn invert(heap: Global, numbers: &[u16]) -> Result<Vec<u16>, AllocError>
 {
     let mut positions = vec![in heap; 0u16; numbers.len()]?;
     for (i, number) in numbers.iter().enumerate() {
-        // by a cast: `try_from` would add a branch that is never taken
+        // by a cast: `try_from` would add a branch that is never taken, and `(0u16..).zip(numbers)` is no plainer than `enumerate`
         positions[usize::from(*number)] = i as u16;
     }
     Ok(positions)
