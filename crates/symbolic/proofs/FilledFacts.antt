@@ -19,6 +19,9 @@ module _ (f : Places) (n m : ℕ) (x : Filled) (h : Holds f n m x) where
   pub columns_long : length (vec_items x.columns) ≡ m
   columns_long = sym (length-map (vec_items x.columns) bounds) ∙ ap length h.columns_are ∙ length-map-range_with_len (bounds_of f n) 0 m
 
+  pub columns_count : vec_len x.columns ≡ m
+  columns_count = x.columns.ok.0 ∙ columns_long
+
   pub entries_long : vec_len x.entries ≡ start f n m
   entries_long = x.entries.ok.0 ∙ ap length h.entries_are
 

@@ -1,5 +1,5 @@
 // The filled pattern, column by column: a column has its entries and, of each column that it awaits, the rows below that one's diagonal.
-ghost use Rattle.std.specs.Prelude.{◌≡◌, ℕ, ◌<◌, false, ◌&&◌, ◌||◌, All, map, length, nat_lt, slice_index_or};
+ghost use Rattle.std.specs.Prelude.{◌≡◌, ℕ, ◌<◌, false, ◌&&◌, ◌||◌, All, map, length, nat_lt, slice_index_or, vec_len};
 ghost use Rattle.network.specs.Permutations.{met};
 ghost use Rattle.elimination.specs.Plans.{limit_checked};
 ghost use Rattle.elimination.specs.Storage.{row_of};
@@ -30,14 +30,14 @@ fn spread(marks: &mut [bool], entries: &[Entry], j: usize)
     }
 }
 
-// Marks the filled rows of column k, where the columns below k are stored.
-fn fill_column(marks: &mut [bool], table: &Table<'_>, filled: &Filled, k: usize)
+// Marks the filled rows of the column after those that are stored.
+fn fill_column(marks: &mut [bool], table: &Table<'_>, filled: &Filled)
     requires long { length marks.old ≡ table.now.n }
-    requires inside { k < table.now.n }
-    requires holds { Holds (filled_from table.now) table.now.n k filled.now }
-    ensures { marks.new ≡ marks_in (filled_from table.now) table.now.n k }
+    requires inside { vec_len filled.now.columns < table.now.n }
+    requires holds { Holds (filled_from table.now) table.now.n (vec_len filled.now.columns) filled.now }
+    ensures { marks.new ≡ marks_in (filled_from table.now) table.now.n (vec_len filled.now.columns) }
 {
-    table.copy_column(k, marks);
+    table.copy_column(filled.columns.len(), marks);
     for (j, column) in filled.columns.iter().enumerate() {
         // the marks change on the way, so each is read where it stands
         if marks[j] {
@@ -53,8 +53,8 @@ pub(crate) fn fill(heap: Global, table: &Table<'_>) -> Result<Filled, Refusal>
     let mut filled = Filled::new(heap);
     let mut marks = vec![in heap; false; table.n]?;
     for k in 0..table.n {
-        fill_column(&mut marks, table, &filled, k);
-        filled.add_column(&marks, k)?;
+        fill_column(&mut marks, table, &filled);
+        filled.add_column(&marks)?;
         if filled.entries.len() > MAX_FILLED {
             return Err(Refusal::FillLimit(k));
         }

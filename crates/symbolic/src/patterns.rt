@@ -66,12 +66,13 @@ impl Filled {
         }
     }
 
-    // Adds column k, whose filled rows are marked. Where memory is wanting, a part of its entries may stay.
-    pub(crate) fn add_column(&mut self, marks: &[bool], k: usize) -> Result<(), AllocError>
+    // Adds the next column, whose filled rows are marked. Where memory is wanting, a part of its entries may stay.
+    pub(crate) fn add_column(&mut self, marks: &[bool]) -> Result<(), AllocError>
         requires few { length marks.now ≤ 512 }
-        requires inside { k < length marks.now }
-        ensures { OnOk result ((f : Places) (n : ℕ) → marks.now ≡ marks_in f n k → Holds f n k self.old → Holds f n (k + 1) self.new) }
+        requires inside { vec_len self.old.columns < length marks.now }
+        ensures { let k = vec_len self.old.columns in OnOk result ((f : Places) (n : ℕ) → marks.now ≡ marks_in f n k → Holds f n k self.old → Holds f n (k + 1) self.new) }
     {
+        let k = self.columns.len();
         let start = self.entries.len();
         // by a cast, as the rows
         gather(&mut self.entries, marks, k as u16)?;

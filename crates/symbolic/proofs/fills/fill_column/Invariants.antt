@@ -1,5 +1,6 @@
+use Rattle.std.proofs.Common.{vec_len}
 use Rattle.symbolic.proofs.ColumnFill.{TakenUp}
 use Rattle.symbolic.proofs.fills.fill_column.Given as goal
 
 abbrev pub invariant-loop-j : goal.invariant-loop-j
-invariant-loop-j l = TakenUp l.table l.k l.j l.marks
+invariant-loop-j l = TakenUp l.table (vec_len l.filled.columns) l.j l.marks

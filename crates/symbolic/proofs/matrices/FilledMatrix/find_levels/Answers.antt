@@ -1,5 +1,4 @@
 use Rattle.std.proofs.Common.{◌≡◌, ℕ, ◌<◌, List, [], ◌∷◌, ◌++◌, length, get_or, refl, ap, sym, ◌∙◌, arith}
-use Rattle.std.specs.List.{slice_range}
 use Rattle.std.proofs.lemmas.List.{get_or_default}
 use Rattle.elimination.specs.Plans.{awaited_by, level_past, levels_of}
 use Rattle.elimination.proofs.Levels.{levels_more, levels_long, level_below}
