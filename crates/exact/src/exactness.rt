@@ -21,7 +21,7 @@ impl Exactness for Check {
     }
 }
 
-// Pairs have an impl for each kind, since pairs over T are exact only where −1 is no square in T: one for every T would need a further trait with that law.
+// One impl for all pairs is no plainer: they are exact only where −1 is no square in T, so T would need a further trait with that law.
 impl Exactness for Pair<f64> {
     fn is_exact() -> bool {
         false

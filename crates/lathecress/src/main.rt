@@ -7,7 +7,9 @@ mod pictures;
 mod worked;
 
 use failures::Failure;
-use network::{Permutation, Permuted};
+use network::Permuted;
+use std::alloc::AllocError;
+use std::fmt::Display;
 use std::process::ExitCode;
 use std::{env, fs, io};
 
@@ -26,14 +28,13 @@ Sheets that are not in order are refused by one line,
   refused: NUMBER LAYER PLACE: what it means
 and the exit status is 1. docs/FORMATS.md has the sheets and the refusals.";
 
-// The orders as they stand in their sheet, one line each.
-fn print_order(rt: &HostRuntime, name: &str, order: &Permutation) -> Result<(), Failure> {
+// A name and a list, in one line.
+fn print_list<T: Display>(rt: &HostRuntime, name: &str, items: &[T]) -> io::Result<()> {
     print!(rt; "{name}")?;
-    for number in order.numbers() {
-        print!(rt; " {number}")?;
+    for item in items {
+        print!(rt; " {item}")?;
     }
-    println!(rt; "")?;
-    Ok(())
+    println!(rt; "")
 }
 
 fn print_pattern(rt: &HostRuntime, matrix: &Permuted) -> Result<(), Failure> {
@@ -52,8 +53,8 @@ fn print_matrix(rt: &HostRuntime, matrix: &Permuted) -> Result<(), Failure> {
     let e = matrix.network().entries().len();
     println!(rt; "n {n}")?;
     println!(rt; "e {e}")?;
-    print_order(rt, "row order", matrix.order().rows())?;
-    print_order(rt, "column order", matrix.order().columns())?;
+    print_list(rt, "row order", matrix.order().rows().numbers())?;
+    print_list(rt, "column order", matrix.order().columns().numbers())?;
     print_pattern(rt, matrix)
 }
 
@@ -63,25 +64,16 @@ fn check_sheets(rt: &HostRuntime, network: &[u8], order: &[u8]) -> Result<(), Fa
 }
 
 fn sheet(rt: &HostRuntime, path: &str) -> Result<Vec<u8>, Failure> {
-    match fs::read(rt, path) {
-        Ok(bytes) => Ok(bytes),
-        Err(error) => Err(Failure::Message(format!(in rt.alloc();
-            "cannot read '{path}': {error}"
-        )?)),
-    }
+    fs::read(rt, path).try_map_err(|error| Ok(Failure::Unread(path.to_string(rt.alloc())?, error)))
 }
 
-// The words that name no job, with what to do instead.
-fn misused(rt: &HostRuntime, first: &str) -> Result<(), Failure> {
-    let heap = rt.alloc();
-    let text = match first {
-        "check" => format!(in heap; "check takes two files: lathecress check NETWORK ORDER")?,
-        "--help" => format!(in heap; "--help stands alone: lathecress --help")?,
-        _ => format!(in heap;
-            "there is no command '{first}': lathecress --help says what there is"
-        )?,
-    };
-    Err(Failure::Message(text))
+// Words that name no job.
+fn misused(rt: &HostRuntime, first: &str) -> Result<Failure, AllocError> {
+    Ok(match first {
+        "check" => Failure::CheckMisused,
+        "--help" => Failure::HelpMisused,
+        _ => Failure::NoCommand(first.to_string(rt.alloc())?),
+    })
 }
 
 fn run(rt: &HostRuntime) -> Result<(), Failure> {
@@ -100,7 +92,7 @@ fn run(rt: &HostRuntime) -> Result<(), Failure> {
             let order = sheet(rt, order.as_str())?;
             check_sheets(rt, &network, &order)
         }
-        [first, ..] => misused(rt, first.as_str()),
+        [first, ..] => Err(misused(rt, first.as_str())?),
     }
 }
 

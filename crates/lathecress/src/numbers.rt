@@ -6,10 +6,11 @@ ghost use Rattle.scalar.specs.Pairs.{pair};
 ghost use Rattle.scalar.specs.Residues.{check_of};
 
 use super::failures::Failure;
-use super::worked;
+use super::{print_list, worked};
 use exact::{Exactness, undone};
 use scalar::{Check, Pair, Scalar};
 use std::fmt::Display;
+use std::io;
 
 // each column's heading, and how wide it is
 const COLUMNS: [(&str, usize); 10] = [
@@ -25,8 +26,8 @@ const COLUMNS: [(&str, usize); 10] = [
     ("x / p * p", 0),
 ];
 
-// A kind of number that a value of the network is turned into.
-trait FromValue: Exactness + Display {
+// A kind of number that a value of the network is turned into. No `From<u8>`: a check number keeps the remainder alone.
+trait FromValue: Sized {
     ghost of_value: { ℕ → Self };
 
     fn from_value(value: u8) -> Self
@@ -65,12 +66,11 @@ fn yes_or_no(answer: bool) -> &'static str
 }
 
 // A line of the table, its cells in columns.
-fn print_line<T: Display>(rt: &HostRuntime, cells: &[T]) -> Result<(), Failure> {
+fn print_line<T: Display>(rt: &HostRuntime, cells: &[T]) -> io::Result<()> {
     for (cell, (_, width)) in cells.iter().zip(COLUMNS) {
         print!(rt; "  {cell:<width$}")?;
     }
-    println!(rt; "")?;
-    Ok(())
+    println!(rt; "")
 }
 
 // Two numbers, and what their arithmetic makes of them.
@@ -93,26 +93,14 @@ fn print_row<T: Exactness + Display>(
         x.quotient(p).to_string(heap)?,
         undone(x, p).to_string(heap)?,
     ];
-    print_line(rt, &cells)
-}
-
-fn print_values(rt: &HostRuntime) -> Result<(), Failure> {
-    print!(rt; "values")?;
-    for value in worked::VALUES {
-        print!(rt; " {value}")?;
-    }
-    print!(rt; "\ncheck numbers")?;
-    for value in worked::VALUES {
-        let number = Check::from_value(value);
-        print!(rt; " {number}")?;
-    }
-    println!(rt; "")?;
+    print_line(rt, &cells)?;
     Ok(())
 }
 
 // Real and check numbers, then pairs of both.
 pub fn print_numbers(rt: &HostRuntime) -> Result<(), Failure> {
-    print_values(rt)?;
+    print_list(rt, "values", &worked::VALUES)?;
+    print_list(rt, "check numbers", &worked::VALUES.map(Check::from_value))?;
     println!(rt; "arithmetic")?;
     print_line(rt, &COLUMNS.map(|(heading, _)| heading))?;
     for (x, p) in [(2, 4), (9, 13), (2, 0)] {

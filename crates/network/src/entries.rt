@@ -20,7 +20,7 @@ impl Entry {
     }
 }
 
-// Reads entries whose rows stand in one list and whose columns in another.
+// Reads entries whose rows stand in one list and whose columns in another. A type, since a `zip` with a `map` over it has none that a function can answer.
 #[derive(Drop)]
 pub(crate) struct EntryReader<'a> {
     rows: Reader<'a>,

@@ -6,6 +6,7 @@ ghost use Rattle.network.specs.Words.{word_read, past};
 #[derive(Drop)]
 pub struct Reader<'a> {
     bytes: &'a [u8],
+    // a number, and not what is left of the bytes, since `next` promises where it stands
     at: usize,
 }
 

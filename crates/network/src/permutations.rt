@@ -10,7 +10,7 @@ pub(crate) use reading::NumberList;
 #[derive(Drop)]
 pub struct Permutation {
     numbers: Vec<u16>,
-    // the index at which each number stands: no list beside the first, since a number is its index
+    // the index of each number, found at the number itself: no list beside the first, but a map from 0 to n - 1
     positions: Vec<u16>,
     ghost small: { vec_len numbers ≤ 512 },
     ghost long: { vec_len positions ≡ vec_len numbers },

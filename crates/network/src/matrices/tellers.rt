@@ -10,7 +10,7 @@ use super::super::orders::Order;
 use super::Permuted;
 use std::alloc::{AllocError, Global};
 
-// The marks are handed out as a plain list, so n stands beside them here alone.
+// n stands beside the marks: a type for both would be made and taken apart within one call.
 fn mark(marks: &mut [bool], n: usize, place: Entry)
     requires { place.row * n + place.column < length marks.old }
     ensures { marks.new ≡ slice_set marks.old (place.row * n + place.column) true }

@@ -16,11 +16,11 @@ use std::alloc::{AllocError, Global};
 fn check_size(sheet: &[u8], n: u16) -> Result<(), Refusal>
     ensures { result ≡ size_checked n sheet.now }
 {
-    let length = Refusal::OrderLength(sheet.len());
+    let wrong_length = Refusal::OrderLength(sheet.len());
     if sheet.len() != 2 + 4 * usize::from(n) {
-        return Err(length);
+        return Err(wrong_length);
     }
-    let found = Reader::new(sheet, 0).next().ok_or(length)?;
+    let found = Reader::new(sheet, 0).next().ok_or(wrong_length)?;
     if found != n {
         return Err(Refusal::OrderSize(found));
     }

@@ -36,6 +36,7 @@ impl<'a> NumberList<'a> {
         ensures { Passes (numbers_checked (length bytes.now / 2) (words_from bytes.now 0) base) (λ list. list.bytes.now ≡ bytes.now) result }
     {
         let n = bytes.len() / 2;
+        // an array, since no memory is asked for yet; sliced at each look, since over one slice of it the proof did not close
         let mut seen = [false; MARKS];
         for (i, number) in Reader::new(bytes, 0).enumerate() {
             if !is_new(&seen[..n], number) {

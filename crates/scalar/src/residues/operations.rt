@@ -14,7 +14,7 @@ fn remainder(number: u32) -> u8
 }
 
 impl Check {
-    // The check number of any number: its remainder by 251.
+    // The check number of any number: its remainder by 251. No `From`, which loses nothing.
     pub fn new(number: u32) -> Check
         ensures { result ≡ check_of number }
     {
