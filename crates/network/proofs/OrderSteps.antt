@@ -1,6 +1,5 @@
 -- One turn of the loop over an order's numbers. Assumes nothing.
-use Rattle.std.proofs.Common.{◌≡◌, ℕ, ◌+◌, ◌-◌, ◌*◌, ◌/◌, ◌<◌, ◌≤◌, ◌^◌, Bool, true, false, List, [], ◌∷◌, map, length, get_or, take, set, replicate, Err, sym, refl, ap, ◌∙◌, subst, arith}
-use Rattle.std.specs.List.{range_with_len}
+use Rattle.std.proofs.Common.{◌≡◌, ℕ, ◌+◌, ◌-◌, ◌*◌, ◌/◌, ◌<◌, ◌≤◌, Bool, true, false, List, [], ◌∷◌, length, get_or, take, set, replicate, Err, sym, refl, ap, ◌∙◌, subst, arith}
 use Rattle.std.proofs.lemmas.List.FromFn.{fill_by_all, get_or-map-range_with_len, length-map-range_with_len}
 use Rattle.refusals.specs.declared.Refusal.TheVariants.{OrderNumber}
 use Rattle.refusals.specs.Checks.{passed, unless, each_from}
@@ -8,7 +7,7 @@ use Rattle.network.specs.OrderSheet.{number_verdict, numbers_checked}
 use Rattle.network.specs.Words.{word, words, words_from}
 use Rattle.refusals.proofs.Checking.{each_from_goes, each_from_stops}
 use Rattle.network.proofs.Permuting.{Marks, marks_none, marks_more, unmarked, new_is}
-use Rattle.network.proofs.Remaining.{how_many, at_end, more, first_is, rest_is}
+use Rattle.network.proofs.Remaining.{Turned, none_turned, turned_all, turn_more, turn_is, turned_more}
 
 pub length_words : (bytes : List ℕ) (p n : ℕ) → length (words bytes p n) ≡ n
 length_words bytes p n = length-map-range_with_len (λ t. word bytes (p + 2 * t)) 0 n
@@ -20,50 +19,20 @@ from_start bytes = let e : (length bytes - 0) / 2 ≡ length bytes / 2 = omega a
 pub length_from : (bytes : List ℕ) → length (words_from bytes 0) ≡ length bytes / 2
 length_from bytes = ap length (from_start bytes) ∙ length_words bytes 0 (length bytes / 2)
 
-abbrev number_at : List ℕ → ℕ → ℕ
+abbrev pub number_at : List ℕ → ℕ → ℕ
 number_at bytes t = word bytes (0 + 2 * t)
 
 -- ---- a loop that has taken i of a list's numbers and has these left
-pub record Turned (bytes : List ℕ) (i : ℕ) (left : List ℕ) : Type 0 where
-  pub few : i ≤ length bytes / 2
-  pub numbers : left ≡ map (number_at bytes) (range_with_len i (length bytes / 2 - i))
+abbrev pub TurnedNumbers : List ℕ → ℕ → List ℕ → Type 0
+TurnedNumbers bytes i left = Turned (number_at bytes) (length bytes / 2) i left
 
-pub none_turned : (bytes : List ℕ) (i : ℕ) (left : List ℕ) → i ≡ 0 → left ≡ words_from bytes 0 → Turned bytes i left
-none_turned bytes i left start all =
-    let whole : length bytes / 2 - 0 ≡ length bytes / 2 = omega arith in
-    subst (λ (k : ℕ). Turned bytes k left) (sym start)
-    record {
-      few = omega arith;
-      numbers = all ∙ from_start bytes ∙ ap (λ (k : ℕ). map (number_at bytes) (range_with_len 0 k)) (sym whole);
-    }
-
-module _ (bytes : List ℕ) (i : ℕ) (left : List ℕ) (so_far : Turned bytes i left) where
-  pub turns_fit : length bytes ≤ 1024 → i + length left < 2 ^ 64
-  turns_fit limit = omega (arith, so_far.few, how_many (number_at bytes) i (length bytes / 2) so_far.few left so_far.numbers)
-
-  pub turned_all : left ≡ [] → length bytes / 2 ≤ i
-  turned_all none = at_end (number_at bytes) i (length bytes / 2) so_far.few left so_far.numbers none
-
-  module _ (x : ℕ) (rest : List ℕ) (some : left ≡ x ∷ rest) where
-    pub turn_more : i < length bytes / 2
-    turn_more = more (number_at bytes) i (length bytes / 2) so_far.few left so_far.numbers x rest some
-
-    pub turn_is : x ≡ get_or (words_from bytes 0) i 0
-    turn_is =
-        first_is (number_at bytes) i (length bytes / 2) so_far.few left so_far.numbers x rest some
-        ∙ sym (ap (λ (xs : List ℕ). get_or xs i 0) (from_start bytes) ∙ get_or-map-range_with_len (number_at bytes) 0 (length bytes / 2) i i 0 (omega (arith, turn_more)) (omega arith))
-
-    pub turned_more : (j : ℕ) → j ≡ i + 1 → Turned bytes j rest
-    turned_more j after =
-        subst (λ (k : ℕ). Turned bytes k rest) (sym after)
-        record {
-          few = omega (arith, turn_more);
-          numbers = rest_is (number_at bytes) i (length bytes / 2) so_far.few left so_far.numbers x rest some;
-        }
+pub number_is : (bytes : List ℕ) (i x : ℕ) → i < length bytes / 2 → x ≡ number_at bytes i → x ≡ get_or (words_from bytes 0) i 0
+number_is bytes i x inside is =
+    is ∙ sym (ap (λ (xs : List ℕ). get_or xs i 0) (from_start bytes) ∙ get_or-map-range_with_len (number_at bytes) 0 (length bytes / 2) i i 0 inside (omega arith))
 
 -- the first i numbers passed and are marked
 pub record Passed (bytes : List ℕ) (n base i : ℕ) (seen : List Bool) (left : List ℕ) : Type 0 where
-  pub turned : Turned bytes i left
+  pub turned : TurnedNumbers bytes i left
   pub marks : Marks seen (words_from bytes 0) i
   pub checks : each_from (number_verdict n (words_from bytes 0) base) i (n - i) ≡ numbers_checked n (words_from bytes 0) base
 
@@ -72,7 +41,7 @@ none_passed bytes n base i left start all =
     let whole : n - 0 ≡ n = omega arith in
     subst (λ (k : ℕ). Passed bytes n base k (replicate 512 false) left) (sym start)
     record {
-      turned = subst (λ (k : ℕ). Turned bytes k left) start (none_turned bytes i left start all);
+      turned = subst (λ (k : ℕ). TurnedNumbers bytes k left) start (none_turned (number_at bytes) (length bytes / 2) i left start (all ∙ from_start bytes));
       marks = marks_none (words_from bytes 0);
       checks = ap (each_from (number_verdict n (words_from bytes 0) base) 0) whole;
     }
@@ -80,16 +49,16 @@ none_passed bytes n base i left start all =
 module _ (bytes : List ℕ) (n base i : ℕ) (seen : List Bool) (left : List ℕ) (size : n ≡ length bytes / 2) (small : n ≤ 512) (so_far : Passed bytes n base i seen left) where
   pub all_passed : left ≡ [] → passed ≡ numbers_checked n (words_from bytes 0) base
   all_passed none =
-      let over : n - i ≡ 0 = omega (arith, size, turned_all bytes i left so_far.turned none) in
+      let over : n - i ≡ 0 = omega (arith, size, turned_all (number_at bytes) (length bytes / 2) i left so_far.turned none) in
       ap (each_from (number_verdict n (words_from bytes 0) base) i) (sym over) ∙ so_far.checks
 
   -- the next number
   module _ (x : ℕ) (rest : List ℕ) (some : left ≡ x ∷ rest) where
     next : i < n
-    next = omega (arith, size, turn_more bytes i left so_far.turned x rest some)
+    next = omega (arith, size, turn_more (number_at bytes) (length bytes / 2) i left so_far.turned x rest some)
 
     is : x ≡ get_or (words_from bytes 0) i 0
-    is = turn_is bytes i left so_far.turned x rest some
+    is = number_is bytes i x (omega (arith, next, size)) (turn_is (number_at bytes) (length bytes / 2) i left so_far.turned x rest some)
 
     verdict_is : (new : Bool) → new ≡ unmarked (take n seen) x → number_verdict n (words_from bytes 0) base i ≡ unless new (OrderNumber (base + i)) passed
     verdict_is new e = ap (λ (b : Bool). unless b (OrderNumber (base + i)) passed) (sym (e ∙ new_is seen (words_from bytes 0) n i x small is so_far.marks))
@@ -98,7 +67,7 @@ module _ (bytes : List ℕ) (n base i : ℕ) (seen : List Bool) (left : List ℕ
     one_more new j after =
         subst (λ (k : ℕ). Passed bytes n base k (set seen x true) rest) (sym after)
         record {
-          turned = turned_more bytes i left so_far.turned x rest some (i + 1) refl;
+          turned = turned_more (number_at bytes) (length bytes / 2) i left so_far.turned x rest some (i + 1) refl;
           marks = marks_more seen (words_from bytes 0) i x (omega (arith, next, size, length_from bytes)) is so_far.marks;
           checks = sym (each_from_goes (number_verdict n (words_from bytes 0) base) i n next (verdict_is true new)) ∙ so_far.checks;
         }

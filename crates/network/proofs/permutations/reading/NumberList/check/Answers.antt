@@ -4,7 +4,8 @@ use Rattle.refusals.proofs.Checking.{passes_ok, passes_err}
 use Rattle.network.specs.Reading.{numbers_left}
 use Rattle.network.specs.Words.{words_from}
 use Rattle.network.proofs.OrderLaw.{numbers_passed}
-use Rattle.network.proofs.OrderSteps.{Passed, none_passed, turns_fit, all_passed, one_more, stops, length_from}
+use Rattle.network.proofs.OrderSteps.{Passed, none_passed, all_passed, one_more, stops, length_from}
+use Rattle.network.proofs.Remaining.{turns_fit}
 use Rattle.network.proofs.permutations.reading.NumberList.check.Goals as goal
 
 pub loop-i-init : goal.loop-i-init
@@ -13,14 +14,14 @@ loop-i-init c =
     let same = c.into_iter-i-iterator.ensures.into_iter_gives in
     let left = ap (λ s. numbers_left s.iter) same ∙ ap numbers_left start.source ∙ (λ d. words_from (c.new.ensures.bytes d) (c.new.ensures.at d)) in
     let so_far = none_passed c.args.bytes.now (length c.args.bytes.now / 2) c.args.base _ _ (ap (λ s. s.count) same ∙ start.count) left in
-    record { may = (tt, tt, inl (turns_fit _ _ _ so_far.turned c.requires.0)); ends = tt; so_far = so_far }
+    record { may = (tt, tt, inl (turns_fit _ _ _ _ so_far.turned (omega arith))); ends = tt; so_far = so_far }
 
 pub loop-i-preserved : goal.loop-i-preserved
 loop-i-preserved c =
     let turn = c.in-Some.ensures.steps in
     let marked = one_more _ _ _ _ _ _ refl (omega arith) c.loop-i.invariant.so_far c.in-Some.number _ turn.0 c.if-not-is_new.ensures _ turn.2 in
     let so_far = subst (λ (x : ℕ). Passed c.args.bytes.now (length c.args.bytes.now / 2) c.args.base c.next.new.self.count (set c.loop-i.seen x true) (numbers_left c.next.new.self.iter)) (sym c.from.ensures) marked in
-    record { may = (tt, tt, inl (turns_fit _ _ _ so_far.turned c.requires.0)); ends = tt; so_far = so_far }
+    record { may = (tt, tt, inl (turns_fit _ _ _ _ so_far.turned (omega arith))); ends = tt; so_far = so_far }
 
 pub returns-then-not-is_new : goal.returns-then-not-is_new
 returns-then-not-is_new c =
