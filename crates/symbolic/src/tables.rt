@@ -14,7 +14,7 @@ impl Table<'_> {
     ghost use Rattle.symbolic.specs.Marks.{marks_in};
     ghost use Rattle.symbolic.specs.Tables.{tabled};
 
-    // Whether there is an entry in row i of column k.
+    // Whether there is an entry in row i of column k. Its place is worked out, since a slice has one index.
     fn has_entry(&self, i: usize, k: usize) -> bool
         requires row { i < self.now.n }
         requires column { k < self.now.n }

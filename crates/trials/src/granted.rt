@@ -1,7 +1,7 @@
 // Sheets that are in order, and what is told of them.
 use super::sheets;
 use network::{Entry, Network, Order, Permutation, Permuted};
-use std::alloc::Global;
+use std::alloc::{AllocError, Global};
 use std::process::Abort;
 use std::test::Fail;
 
@@ -101,12 +101,12 @@ fn marks_row_by_row(rt: HostRuntime) -> Result<(), Fail> {
 }
 
 // A network of n columns with e entries, 16 to a column from row 0 on, as a sheet.
-fn full(heap: Global, n: u16, e: u16) -> Result<Vec<u8>, Fail> {
+fn full(heap: Global, n: u16, e: u16) -> Result<Vec<u8>, AllocError> {
     let mut numbers = vec![in heap; n, e]?;
     numbers.extend((0..e).map(|t| t % 16))?;
     numbers.extend((0..e).map(|t| t / 16))?;
     let length = numbers.len().saturating_mul(2);
-    Ok(sheets::bytes(heap, &numbers, length)?)
+    sheets::bytes(heap, &numbers, length)
 }
 
 #[test]

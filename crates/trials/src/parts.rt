@@ -29,6 +29,13 @@ fn reader_starts_anywhere(rt: HostRuntime) {
 }
 
 #[test]
+fn reader_is_an_iterator(rt: HostRuntime) -> Result<(), Fail> {
+    let numbers: Vec<u16> = Reader::new(&[9, 1, 2, 255, 255, 0], 1).collect(rt.alloc())?;
+    assert_eq!(rt; numbers.as_slice(), [513, 65535].as_slice());
+    Ok(())
+}
+
+#[test]
 fn entries_by_column_then_row(rt: HostRuntime) {
     let cases = [
         ((0, 1), (0, 0), true),

@@ -2,7 +2,7 @@
 use super::sheets;
 use network::Permuted;
 use refusals::Refusal;
-use std::alloc::Global;
+use std::alloc::{AllocError, Global};
 use std::process::Abort;
 use std::test::Fail;
 
@@ -90,9 +90,9 @@ const ORDERS: [Damage; 22] = [
 ];
 
 impl Damage<'_> {
-    fn sheet(&self, heap: Global, whole: &[u16]) -> Result<Vec<u8>, Fail> {
+    fn sheet(&self, heap: Global, whole: &[u16]) -> Result<Vec<u8>, AllocError> {
         let numbers = sheets::changed(heap, whole, self.edits)?;
-        Ok(sheets::bytes(heap, &numbers, self.length)?)
+        sheets::bytes(heap, &numbers, self.length)
     }
 
     fn check_refusal(&self, rt: &impl Abort, refusal: Refusal, letter: char) {
