@@ -13,6 +13,12 @@ written v v' ws xs i is lent set' =
     let same = set' ∙ ap (λ (ys : List Bool). set ys i true) lent in
     ap (λ (u : Vec Bool Global). vec_items u) is ∙ with_items_is v ws (ap length same ∙ length-set (vec_items v) i true ∙ sym v.ok.0) ∙ same
 
+pub mark-requires : goal.mark-requires
+mark-requires c =
+    let copied = c.entries-entry-items.ensures in
+    let one = step c.args.self.now _ c.loop-entry.entry-index _ _ c.in-Some.place (c.from-n.ensures ∙ c.size.ensures) copied (omega (arith, ap length copied)) c.in-Some.ensures c.loop-entry.invariant in
+    omega (arith, one.0, c.loop-entry.marks.ok.0)
+
 pub loop-entry-preserved : goal.loop-entry-preserved
 loop-entry-preserved c =
     let m = c.args.self.now in
