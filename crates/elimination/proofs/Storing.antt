@@ -3,7 +3,8 @@ use Rattle.std.proofs.Common.{◌≡◌, ℕ, zero, suc, ◌+◌, ◌-◌, ◌<�
 use Rattle.std.specs.List.{range_with_len, AllByRecursion as All}
 use Rattle.std.proofs.lemmas.List.Elements.{filter-append}
 use Rattle.std.proofs.ByRecursion.{All-get_or, All-weaker}
-use Rattle.std.proofs.lemmas.List.{append-nil, append_assoc, map-append, length-append, length-map, take_at, drop_at, get_or-append-add}
+use Rattle.std.proofs.lemmas.Simd.{map-map}
+use Rattle.std.proofs.lemmas.List.{append-nil, append_assoc, map-append, map-id, length-append, length-map, take_at, drop_at, get_or-append-add}
 use Rattle.std.proofs.lemmas.Bool.{cases_eq, eq-eqb, ne_eqb, lt-ltb, le-ltb, and_from, and_right, cond-true, cond-false, cond_both}
 use Rattle.std.proofs.lemmas.Bool.Decides.{nat_tests}
 use Rattle.network.specs.declared.entries.Entry.{Entry}
@@ -109,8 +110,7 @@ kept_same p q (suc n) same =
 
 -- ---- the stored entries
 pub rows_in_column : (k : ℕ) (xs : List ℕ) → map row_of (map (in_column k) xs) ≡ xs
-rows_in_column k [] = refl
-rows_in_column k (x ∷ xs) = ap (λ (ys : List ℕ). x ∷ ys) (rows_in_column k xs)
+rows_in_column k xs = map-map row_of (in_column k) xs ∙ map-id xs
 
 module _ (f : Places) (n : ℕ) where
   pub stored_more : (k : ℕ) → stored f n (k + 1) ≡ stored f n k ++ map (in_column k) (rows_of f n k)

@@ -33,20 +33,20 @@ number_is bytes i x inside is =
 -- the first i numbers passed and are marked
 pub record Passed (bytes : List ℕ) (n base i : ℕ) (seen : List Bool) (left : List ℕ) : Type 0 where
   pub turned : TurnedNumbers bytes i left
-  pub marks : Marks seen (words_from bytes 0) i
+  pub marks : Marks n seen (words_from bytes 0) i
   pub checks : each_from (number_verdict n (words_from bytes 0) base) i (n - i) ≡ numbers_checked n (words_from bytes 0) base
 
-pub none_passed : (bytes : List ℕ) (n base i : ℕ) (left : List ℕ) → i ≡ 0 → left ≡ words_from bytes 0 → Passed bytes n base i (replicate 512 false) left
-none_passed bytes n base i left start all =
+pub none_passed : (bytes : List ℕ) (n base i : ℕ) (left : List ℕ) → n ≤ 512 → i ≡ 0 → left ≡ words_from bytes 0 → Passed bytes n base i (take n (replicate 512 false)) left
+none_passed bytes n base i left small start all =
     let whole : n - 0 ≡ n = omega arith in
-    subst (λ (k : ℕ). Passed bytes n base k (replicate 512 false) left) (sym start)
+    subst (λ (k : ℕ). Passed bytes n base k (take n (replicate 512 false)) left) (sym start)
     record {
       turned = subst (λ (k : ℕ). TurnedNumbers bytes k left) start (none_turned (number_at bytes) (length bytes / 2) i left start (all ∙ from_start bytes));
-      marks = marks_none (words_from bytes 0);
+      marks = marks_none n (words_from bytes 0) small;
       checks = ap (each_from (number_verdict n (words_from bytes 0) base) 0) whole;
     }
 
-module _ (bytes : List ℕ) (n base i : ℕ) (seen : List Bool) (left : List ℕ) (size : n ≡ length bytes / 2) (small : n ≤ 512) (so_far : Passed bytes n base i seen left) where
+module _ (bytes : List ℕ) (n base i : ℕ) (seen : List Bool) (left : List ℕ) (size : n ≡ length bytes / 2) (so_far : Passed bytes n base i seen left) where
   pub all_passed : left ≡ [] → passed ≡ numbers_checked n (words_from bytes 0) base
   all_passed none =
       let over : n - i ≡ 0 = omega (arith, size, turned_all (number_at bytes) (length bytes / 2) i left so_far.turned none) in
@@ -60,19 +60,19 @@ module _ (bytes : List ℕ) (n base i : ℕ) (seen : List Bool) (left : List ℕ
     is : x ≡ get_or (words_from bytes 0) i 0
     is = number_is bytes i x (omega (arith, next, size)) (turn_is (number_at bytes) (length bytes / 2) i left so_far.turned x rest some)
 
-    verdict_is : (new : Bool) → new ≡ unmarked (take n seen) x → number_verdict n (words_from bytes 0) base i ≡ unless new (OrderNumber (base + i)) passed
-    verdict_is new e = ap (λ (b : Bool). unless b (OrderNumber (base + i)) passed) (sym (e ∙ new_is seen (words_from bytes 0) n i x small is so_far.marks))
+    verdict_is : (new : Bool) → new ≡ unmarked seen x → number_verdict n (words_from bytes 0) base i ≡ unless new (OrderNumber (base + i)) passed
+    verdict_is new e = ap (λ (b : Bool). unless b (OrderNumber (base + i)) passed) (sym (e ∙ new_is n seen (words_from bytes 0) i x is so_far.marks))
 
-    pub one_more : true ≡ unmarked (take n seen) x → (j : ℕ) → j ≡ i + 1 → Passed bytes n base j (set seen x true) rest
+    pub one_more : true ≡ unmarked seen x → (j : ℕ) → j ≡ i + 1 → Passed bytes n base j (set seen x true) rest
     one_more new j after =
         subst (λ (k : ℕ). Passed bytes n base k (set seen x true) rest) (sym after)
         record {
           turned = turned_more (number_at bytes) (length bytes / 2) i left so_far.turned x rest some (i + 1) refl;
-          marks = marks_more seen (words_from bytes 0) i x (omega (arith, next, size, length_from bytes)) is so_far.marks;
+          marks = marks_more n seen (words_from bytes 0) i x (omega (arith, next, size, length_from bytes)) is so_far.marks;
           checks = sym (each_from_goes (number_verdict n (words_from bytes 0) base) i n next (verdict_is true new)) ∙ so_far.checks;
         }
 
-    pub stops : false ≡ unmarked (take n seen) x → Err (OrderNumber (base + i)) ≡ numbers_checked n (words_from bytes 0) base
+    pub stops : false ≡ unmarked seen x → Err (OrderNumber (base + i)) ≡ numbers_checked n (words_from bytes 0) base
     stops new = sym (each_from_stops (number_verdict n (words_from bytes 0) base) i n (OrderNumber (base + i)) next (verdict_is false new)) ∙ so_far.checks
 
 -- ---- a list that stands in a sheet

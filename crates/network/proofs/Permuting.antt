@@ -16,15 +16,18 @@ met_push v x (y ∷ xs) = elim (eqb y v) as (λ b. (b || met v (xs ++ x ∷ []))
 pub met_more : (v i : ℕ) (xs : List ℕ) → i < length xs → met v (take (i + 1) xs) ≡ (met v (take i xs) || eqb (get_or xs i 0) v)
 met_more v i xs h = ap (met v) (take_more xs i 0 h) ∙ met_push v (get_or xs i 0) (take i xs)
 
--- the marks of the first i of xs
-abbrev pub Marks : List Bool → List ℕ → ℕ → Type 0
-Marks seen xs i = (length seen ≡ 512) × ((v : ℕ) → v < 512 → get_or seen v false ≡ met v (take i xs))
+-- n marks, of the first i of xs
+abbrev pub Marks : ℕ → List Bool → List ℕ → ℕ → Type 0
+Marks n seen xs i = (length seen ≡ n) × ((v : ℕ) → v < n → get_or seen v false ≡ met v (take i xs))
 
-pub marks_none : (xs : List ℕ) → Marks (replicate 512 false) xs 0
-marks_none xs = (length-replicate 512 false, λ v h. get_or-replicate 512 v false false h)
+pub marks_none : (n : ℕ) (xs : List ℕ) → n ≤ 512 → Marks n (take n (replicate 512 false)) xs 0
+marks_none n xs few = (
+  omega (arith, length-take n (replicate 512 false), length-replicate 512 false),
+  λ v h. get_or-take n (replicate 512 false) v false h ∙ get_or-replicate 512 v false false (omega arith),
+)
 
-marked : (seen : List Bool) (xs : List ℕ) (i x v : ℕ) → x ≡ get_or xs i 0 → v < 512 → Marks seen xs i → get_or (set seen x true) v false ≡ (met v (take i xs) || eqb (get_or xs i 0) v)
-marked seen xs i x v is inside marks =
+marked : (n : ℕ) (seen : List Bool) (xs : List ℕ) (i x v : ℕ) → x ≡ get_or xs i 0 → v < n → Marks n seen xs i → get_or (set seen x true) v false ≡ (met v (take i xs) || eqb (get_or xs i 0) v)
+marked n seen xs i x v is inside marks =
     ⊎_elim
     (λ (same : v ≡ x).
     subst (λ (w : ℕ). get_or (set seen x true) w false ≡ true) (sym same) (get_or-set_same seen x true false (omega (arith, marks.0)))
@@ -34,27 +37,25 @@ marked seen xs i x v is inside marks =
     ∙ or_false (met v (take i xs)) (eqb (get_or xs i 0) v) (ne_eqb (get_or xs i 0) v (λ e. apart (sym e ∙ sym is))))
     (cases_eq v x)
 
-pub marks_more : (seen : List Bool) (xs : List ℕ) (i x : ℕ) → i < length xs → x ≡ get_or xs i 0 → Marks seen xs i → Marks (set seen x true) xs (i + 1)
-marks_more seen xs i x h is marks = (
+pub marks_more : (n : ℕ) (seen : List Bool) (xs : List ℕ) (i x : ℕ) → i < length xs → x ≡ get_or xs i 0 → Marks n seen xs i → Marks n (set seen x true) xs (i + 1)
+marks_more n seen xs i x h is marks = (
   length-set seen x true ∙ marks.0,
-  λ v inside. marked seen xs i x v is inside marks ∙ sym (met_more v i xs h),
+  λ v inside. marked n seen xs i x v is inside marks ∙ sym (met_more v i xs h),
 )
 
 -- whether the mark of x is there and is not set
 abbrev pub unmarked : List Bool → ℕ → Bool
 unmarked seen x = ltb x (length seen) && not (get_or seen x false)
 
--- the test by the first n marks is the test by what stands before
-pub new_is : (seen : List Bool) (xs : List ℕ) (n i x : ℕ) → n ≤ 512 → x ≡ get_or xs i 0 → Marks seen xs i → unmarked (take n seen) x ≡ in_turn n xs i
-new_is seen xs n i x few is marks =
-    let whole : length (take n seen) ≡ n = omega (arith, length-take n seen, marks.0) in
+-- the test by marks is the test by what stands before
+pub new_is : (n : ℕ) (seen : List Bool) (xs : List ℕ) (i x : ℕ) → x ≡ get_or xs i 0 → Marks n seen xs i → unmarked seen x ≡ in_turn n xs i
+new_is n seen xs i x is marks =
     ⊎_elim
     (λ (small : ltb x n ≡ true).
-    let inside : x < n = ltb-true x n small in
-    (λ d. ltb x (whole d) && not ((get_or-take n seen x false inside ∙ marks.1 x (omega arith) ∙ ap (λ (y : ℕ). met y (take i xs)) is) d))
+    (λ d. ltb x (marks.0 d) && not ((marks.1 x (ltb-true x n small) ∙ ap (λ (y : ℕ). met y (take i xs)) is) d))
     ∙ ap (λ (y : ℕ). ltb y n && not (met (get_or xs i 0) (take i xs))) is)
     (λ (large : ltb x n ≡ false).
-    and_left _ _ (ap (ltb x) whole ∙ large) ∙ sym (and_left _ _ (ap (λ (y : ℕ). ltb y n) (sym is) ∙ large)))
+    and_left _ _ (ap (ltb x) marks.0 ∙ large) ∙ sym (and_left _ _ (ap (λ (y : ℕ). ltb y n) (sym is) ∙ large)))
     (cases_Bool (ltb x n))
 
 -- ---- what stands once

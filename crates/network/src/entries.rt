@@ -20,7 +20,7 @@ impl Entry {
     }
 }
 
-// Reads entries whose rows stand in one list and whose columns in another. A type, since a `zip` with a `map` over it has none that a function can answer.
+// Reads entries whose rows stand in one list and whose columns in another. A `zip` of two readers is no plainer: each user would make entries of pairs, and what is left would be told of two lists.
 #[derive(Drop)]
 pub(crate) struct EntryReader<'a> {
     rows: Reader<'a>,

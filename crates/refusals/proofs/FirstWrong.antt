@@ -55,6 +55,10 @@ judges Wrong (Ok x) P (Ok y) nothing a = nothing
 judges Wrong (Ok x) P (Err refusal) nothing a = inr (a, nothing)
 judges {X} Wrong (Err refusal) P r first a = subst (λ (s : Result X Refusal). Judges Wrong s) (sym a) (inl first)
 
+-- both clauses of a call that judges what it reads, from the first of them
+pub judges_too : {X : Type 0} (Wrong : Refusal → Type 0) (v : Verdict) (P : X → Type 0) (r : Result X Refusal) → Told Wrong v → Answers v P r → record { answers : Answers v P r; judges : Judges Wrong r }
+judges_too Wrong v P r told a = record { answers = a; judges = judges Wrong v P r told a }
+
 pub bind_last : (v : Verdict) → bind v (λ _. passed) ≡ v
 bind_last (Ok tt) = refl
 bind_last (Err refusal) = refl

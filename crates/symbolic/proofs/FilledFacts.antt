@@ -25,7 +25,11 @@ module _ (f : Places) (n m : ℕ) (x : Filled) (h : Holds f n m x) where
   pub entries_long : vec_len x.entries ≡ start f n m
   entries_long = x.entries.ok.0 ∙ ap length h.entries_are
 
-  -- column k among its columns, as they are lent
+  -- where its columns, as they are lent, were all gone through
+  pub through : (columns : List Column) → columns ≡ vec_items x.columns → (j : ℕ) → length columns ≤ j → j ≤ length columns → j ≡ m
+  through columns lent j past within = omega (arith, past, within, ap length lent, columns_long)
+
+  -- column k among them
   module _ (columns : List Column) (lent : columns ≡ vec_items x.columns) (k : ℕ) (more : k < length columns) where
     pub below : k < m
     below = omega (arith, more, ap length lent, columns_long)

@@ -31,15 +31,16 @@ pub(crate) struct NumberList<'a> {
 
 impl<'a> NumberList<'a> {
     // Refuses the first number that is n or more, or met before; the first index is called `base`.
+    // The limit on the bytes is required here and by the two callers: a type for bytes before their check would be made and taken apart within one call.
     pub(crate) fn check(bytes: &'a [u8], base: usize) -> Result<NumberList<'a>, Refusal>
         requires { (length bytes.now ≤ 1024) × (base ≤ 512) }
         ensures { Passes (numbers_checked (length bytes.now / 2) (words_from bytes.now 0) base) (λ list. list.bytes.now ≡ bytes.now) result }
     {
-        let n = bytes.len() / 2;
-        // an array, since no memory is asked for yet; sliced at each look, since over one slice of it the proof did not close
-        let mut seen = [false; MARKS];
+        // an array, since no memory is asked for yet
+        let mut marks = [false; MARKS];
+        let seen = &mut marks[..bytes.len() / 2];
         for (i, number) in Reader::new(bytes, 0).enumerate() {
-            if !is_new(&seen[..n], number) {
+            if !is_new(seen, number) {
                 return Err(Refusal::OrderNumber(base + i));
             }
             seen[usize::from(number)] = true;

@@ -3,7 +3,7 @@ use Rattle.elimination.specs.Plans.{in_column, rows_of}
 use Rattle.symbolic.specs.Marks.{marks_in}
 use Rattle.symbolic.specs.Tables.{filled_from, tabled}
 use Rattle.symbolic.proofs.ColumnFill.{TakenUp, taken_none, taken_skips, taken_more, taken_all}
-use Rattle.symbolic.proofs.FilledFacts.{below, columns_long, column_is, column_inside, rows_are}
+use Rattle.symbolic.proofs.FilledFacts.{below, through, column_is, column_inside, rows_are}
 use Rattle.symbolic.proofs.fills.fill_column.Goals as goal
 use Rattle.symbolic.proofs.fills.fill_column.Goals.{then-marks-j, else-marks-j}
 
@@ -49,7 +49,7 @@ pub returns : goal.returns
 returns c =
     let table = c.args.table.now in
     let columns = c.deref-column-items.ensures.value in
-    let end : c.loop-j.j ≡ (vec_len c.args.filled.now.columns) = omega (arith, columns_long (filled_from table) table.n (vec_len c.args.filled.now.columns) c.args.filled.now c.requires.holds, ap length columns, c.loop-j-test.false, c.loop-j.auto.j-end) in
+    let end = through (filled_from table) table.n (vec_len c.args.filled.now.columns) c.args.filled.now c.requires.holds _ columns _ c.loop-j-test.false c.loop-j.auto.j-end in
     let long : length c.loop-j.marks ≡ table.n = c.loop-j.auto.marks ∙ c.copy_column.auto.marks ∙ c.requires.long in
     taken_all table (vec_len c.args.filled.now.columns) c.requires.inside c.loop-j.marks long
     (subst (λ (j : ℕ). TakenUp table (vec_len c.args.filled.now.columns) j c.loop-j.marks) end c.loop-j.invariant)

@@ -1,10 +1,10 @@
-use Rattle.std.proofs.Common.{◌≡◌, ◌-◌, Bool, true, false, length, sym, ap, ◌∙◌, arith}
+use Rattle.std.proofs.Common.{◌≡◌, ◌-◌, Bool, true, false, sym, ap, ◌∙◌, arith}
 use Rattle.elimination.specs.Plans.{diagonal_verdict}
 use Rattle.refusals.specs.declared.Refusal.TheVariants.{DiagonalNotFilled}
 use Rattle.refusals.specs.Checks.{each_from, passed, unless}
 use Rattle.refusals.proofs.Checking.{each_from_goes, each_from_stops}
 use Rattle.symbolic.specs.Filling.{filled_of}
-use Rattle.symbolic.proofs.FilledFacts.{below, columns_long, diagonal_is}
+use Rattle.symbolic.proofs.FilledFacts.{below, through, diagonal_is}
 use Rattle.symbolic.proofs.matrices.FilledMatrix.check_diagonals.Goals as goal
 
 pub returns-then-not-has_diagonal : goal.returns-then-not-has_diagonal
@@ -37,5 +37,5 @@ returns c =
     let n = x.matrix.network.n in
     let f = filled_of x.matrix in
     let lent = c.deref-column-items.ensures.value in
-    let done : n - c.loop-k.k ≡ 0 = omega (arith, columns_long f n n x.filled x.holds, ap length lent, c.loop-k-test.false) in
+    let done : n - c.loop-k.k ≡ 0 = omega (arith, through f n n x.filled x.holds _ lent _ c.loop-k-test.false c.loop-k.auto.k-end) in
     sym (ap (each_from (diagonal_verdict f) c.loop-k.k) done) ∙ c.loop-k.invariant

@@ -3,7 +3,7 @@ use Rattle.std.proofs.lemmas.List.{get_or_default}
 use Rattle.elimination.specs.Plans.{awaited_by, level_past, levels_of}
 use Rattle.elimination.proofs.Levels.{levels_more, levels_long, level_below}
 use Rattle.symbolic.specs.Filling.{filled_of}
-use Rattle.symbolic.proofs.FilledFacts.{awaited_inside, awaited_is, below, columns_long, rows_are}
+use Rattle.symbolic.proofs.FilledFacts.{awaited_inside, awaited_is, below, through, rows_are}
 use Rattle.symbolic.proofs.matrices.FilledMatrix.find_levels.Goals as goal
 
 pub level_after-level-requires : goal.level_after-level-requires
@@ -51,5 +51,5 @@ returns c =
     let n = x.matrix.network.n in
     let f = filled_of x.matrix in
     let lent = c.deref-column-items.ensures.value in
-    let end : c.loop-column.column-index ≡ n = omega (arith, columns_long f n n x.filled x.holds, ap length lent, c.loop-column-test.false, c.loop-column.auto.column-index-end) in
+    let end = through f n n x.filled x.holds _ lent _ c.loop-column-test.false c.loop-column.auto.column-index-end in
     c.loop-column.invariant ∙ ap (levels_of f) end
