@@ -21,3 +21,6 @@ all_entries bytes e x long row_bytes row_at column_bytes column_at =
     (λ d. paired (words_from (row_bytes d) (row_at d)) (words_from (column_bytes d) (column_at d)))
     ∙ ap (λ (n : ℕ). paired (words_from bytes 4) (words bytes (4 + 2 * e) n)) count
     ∙ paired_by (λ t. word bytes (4 + 2 * t)) (λ t. word bytes (4 + 2 * e + 2 * t)) 0 ((length bytes - 4) / 2) e (omega arith)
+
+pub first_pair : (r k : ℕ) (rows columns rows' columns' : List ℕ) → rows ≡ r ∷ rows' → columns ≡ k ∷ columns' → paired rows columns ≡ record { column = k; row = r } ∷ paired rows' columns'
+first_pair r k rows columns rows' columns' some_row some_column = λ d. paired (some_row d) (some_column d)

@@ -122,16 +122,19 @@ module _ (m : Permuted) where
       ap (λ (ys : List Entry). place_in (vec_len m.order.rows.numbers) (orders m.order) (get_or ys t origin)) same
       ∙ cond-true _ _ _ (and_from _ _ (lt-ltb _ _ row) (lt-ltb _ _ column))
 
-  pub always_in : (xs : List Entry) (t : ℕ) → xs ≡ vec_items m.network.entries → t < length (vec_items m.network.entries) → None ≡ place_in (vec_len m.order.rows.numbers) (orders m.order) (get_or xs t origin) → ⊥
-  always_in xs t same h is = let e = placed_in xs t same h in cc
+  -- the same is told of it
+  pub asked : (xs : List Entry) (t : ℕ) → xs ≡ vec_items m.network.entries → t < length (vec_items m.network.entries) → place_in (vec_len m.order.rows.numbers) (orders m.order) (get_or xs t origin) ≡ place_told (pattern m.network) (orders m.order) t
+  asked xs t same h = placed_in xs t same h ∙ sym (answered t h _ refl)
 
-  -- one turn: the place is marked
-  pub step : (n t : ℕ) (xs : List Entry) (marks : List Bool) (x : Entry) → n ≡ m.network.n → xs ≡ vec_items m.network.entries → t < length (vec_items m.network.entries) → Some x ≡ place_in (vec_len m.order.rows.numbers) (orders m.order) (get_or xs t origin) → Marked n (orders m.order) (vec_items m.network.entries) t marks → (x.row * n + x.column < length marks) × Marked n (orders m.order) (vec_items m.network.entries) (t + 1) (set marks (x.row * n + x.column) true)
-  step n t ys marks x size copied h is marked =
+  pub always : (t : ℕ) → t < length (vec_items m.network.entries) → None ≡ place_told (pattern m.network) (orders m.order) t → ⊥
+  always t h is = let e = answered t h None is in cc
+
+  -- one turn: the place that was told is marked
+  pub step : (n t : ℕ) (marks : List Bool) (x : Entry) → n ≡ m.network.n → t < length (vec_items m.network.entries) → Some x ≡ place_told (pattern m.network) (orders m.order) t → Marked n (orders m.order) (vec_items m.network.entries) t marks → (x.row * n + x.column < length marks) × Marked n (orders m.order) (vec_items m.network.entries) (t + 1) (set marks (x.row * n + x.column) true)
+  step n t marks x size h is marked =
       let o = orders m.order in
       let xs = vec_items m.network.entries in
-      let at = placed_in ys t copied h in
-      let same : x ≡ placed_at (pattern m.network) o t = cc in
+      let same = told t x h is in
       let row : (placed o (get_or xs t origin)).row < n = subst (λ (k : ℕ). (placed o (get_or xs t origin)).row < k) (sym size) (placed_inside t h).0 in
       let column : (placed o (get_or xs t origin)).column < n = subst (λ (k : ℕ). (placed o (get_or xs t origin)).column < k) (sym size) (placed_inside t h).1 in
       subst (λ (y : Entry). (y.row * n + y.column < length marks) × Marked n o xs (t + 1) (set marks (y.row * n + y.column) true)) (sym same)

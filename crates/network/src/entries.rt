@@ -1,11 +1,12 @@
 // The entries of a network: the places where its matrix may hold a number.
-ghost use Rattle.std.specs.Prelude.{◌≡◌};
+ghost use Rattle.std.specs.Prelude.{◌≡◌, IfNone};
 ghost use Rattle.network.specs.Entries.{after};
 
 use super::numbers::Reader;
+use std::fmt;
 
 // Entries are in order by column, then by row.
-#[derive(Clone, Copy, PartialEq, Eq, PartialOrd, Ord, Debug)]
+#[derive(Clone, Copy, PartialEq, Eq, PartialOrd, Ord)]
 pub struct Entry {
     pub column: u16,
     pub row: u16,
@@ -17,6 +18,16 @@ impl Entry {
         ensures { result ≡ after self other }
     {
         self > other
+    }
+}
+
+// Shown with its row first, as an entry is written, though its column comes first in the order.
+impl fmt::Debug for Entry {
+    fn fmt<W: fmt::Write>(&self, f: &mut fmt::Formatter<W>) -> fmt::Result {
+        f.debug_struct("Entry")
+            .field("row", &self.row)
+            .field("column", &self.column)
+            .finish()
     }
 }
 
@@ -50,9 +61,14 @@ impl Iterator for EntryReader<'_> {
 
     ghost remaining = { item_count entries_left };
 
-    fn next(&mut self) -> Option<Entry> {
-        let row = self.rows.next()?;
+    // The columns, which stand last in a sheet, are read first: where they end, no number is read again as a row.
+    #[tactic(auto, using(crate::proofs::EntryPairs::first_pair, crate::proofs::Reading::first_left))]
+    fn next(&mut self) -> Option<Entry>
+        ensures steps { YieldsFirst entries_left self.old result self.new }
+        ensures unread { IfNone result (self.new.rows.at ≡ self.old.rows.at) }
+    {
         let column = self.columns.next()?;
+        let row = self.rows.next()?;
         Some(Entry { column, row })
     }
 }

@@ -35,8 +35,12 @@ impl Iterator for Reader<'_> {
         ensures position { self.new.at ≡ past self.old.bytes.now self.old.at }
         ensures same { self.new.bytes.now ≡ self.old.bytes.now }
     {
-        let low = *self.bytes.get(self.at)?;
-        let high = *self.bytes.get(self.at + 1)?;
+        // where the last number can stand: one test for both bytes
+        let last = self.bytes.len().checked_sub(2)?;
+        if self.at > last {
+            return None;
+        }
+        let (low, high) = (self.bytes[self.at], self.bytes[self.at + 1]);
         self.at += 2;
         Some(u16::from_le_bytes([low, high]))
     }

@@ -55,6 +55,14 @@ fn entries_by_column_then_row(rt: HostRuntime) {
 }
 
 #[test]
+fn entries_are_shown_row_first(rt: HostRuntime) -> Result<(), Fail> {
+    let entry = Entry { row: 1, column: 2 };
+    let text = format!(in rt.alloc(); "{:?}", entry)?;
+    assert_eq!(rt; text.as_str(), "Entry { row: 1, column: 2 }");
+    Ok(())
+}
+
+#[test]
 fn lines_of_refusals(rt: HostRuntime) -> Result<(), Fail> {
     let cases = [
         (

@@ -1,14 +1,16 @@
 // What the permuted matrix tells.
-ghost use Rattle.std.specs.Prelude.{◌≡◌, ◌+◌, ◌*◌, ◌<◌, true, IfOk, length, slice_set};
+ghost use Rattle.std.specs.Prelude.{◌≡◌, ◌+◌, ◌*◌, ◌<◌, true, length, MatchResult, slice_set};
 ghost use Rattle.network.specs.NetworkSheet.{pattern};
 ghost use Rattle.network.specs.OrderSheet.{orders};
 ghost use Rattle.network.specs.Permuted.{place_told, marks_of};
+ghost use Rattle.refusals.specs.declared.Refusal.TheVariants.{OutOfMemory};
 
 use super::super::entries::Entry;
 use super::super::networks::Network;
 use super::super::orders::Order;
 use super::Permuted;
-use std::alloc::{AllocError, Global};
+use refusals::Refusal;
+use std::alloc::Global;
 
 // n stands beside the marks: a type for both would be made and taken apart within one call.
 fn mark(marks: &mut [bool], n: usize, place: Entry)
@@ -40,8 +42,8 @@ impl Permuted {
     }
 
     // Whether B has an entry at each place, row by row.
-    pub fn marks(&self, heap: Global) -> Result<Vec<bool>, AllocError>
-        ensures { IfOk result (λ v. v.items ≡ marks_of (pattern self.now.network) (orders self.now.order)) }
+    pub fn marks(&self, heap: Global) -> Result<Vec<bool>, Refusal>
+        ensures { MatchResult result (λ v. v.items ≡ marks_of (pattern self.now.network) (orders self.now.order)) (λ refusal. refusal ≡ OutOfMemory) }
     {
         let n = usize::from(self.network.size());
         let mut marks = vec![in heap; false; n * n]?;

@@ -48,14 +48,15 @@ impl<'a> NumberList<'a> {
         Ok(NumberList { bytes })
     }
 
-    // The index of each number.
-    fn positions(&self, heap: Global) -> Result<Vec<u16>, AllocError>
-        ensures { IfOk result (λ v. Inverts v.items (words_from self.now.bytes.now 0)) }
+    // The index of each of its numbers.
+    fn positions(&self, heap: Global, numbers: &[u16]) -> Result<Vec<u16>, AllocError>
+        requires { numbers.now ≡ words_from self.now.bytes.now 0 }
+        ensures { IfOk result (λ v. Inverts v.items numbers.now) }
     {
-        let mut positions = vec![in heap; 0u16; self.bytes.len() / 2]?;
-        for (i, number) in Reader::new(self.bytes, 0).enumerate() {
-            // by a cast: `try_from` would add a branch that is never taken, and `(0u16..).zip(..)` is no plainer than `enumerate`
-            positions[usize::from(number)] = i as u16;
+        let mut positions = vec![in heap; 0u16; numbers.len()]?;
+        for (i, number) in numbers.iter().enumerate() {
+            // by a cast: `try_from` would add a branch that is never taken, and `(0u16..).zip(numbers)` is no plainer than `enumerate`
+            positions[usize::from(*number)] = i as u16;
         }
         Ok(positions)
     }
@@ -63,8 +64,8 @@ impl<'a> NumberList<'a> {
     pub(crate) fn read(&self, heap: Global) -> Result<Permutation, AllocError>
         ensures { IfOk result (λ p. p.numbers.items ≡ words_from self.now.bytes.now 0) }
     {
-        let numbers = Reader::new(self.bytes, 0).collect(heap)?;
-        let positions = self.positions(heap)?;
+        let numbers: Vec<u16> = Reader::new(self.bytes, 0).collect(heap)?;
+        let positions = self.positions(heap, &numbers)?;
         Ok(Permutation { numbers, positions })
     }
 }

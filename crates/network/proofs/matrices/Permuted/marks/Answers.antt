@@ -3,7 +3,7 @@ use Rattle.std.specs.Vec.{with_items}
 use Rattle.std.proofs.lemmas.List.{with_items_is, length-set}
 use Rattle.std.specs.declared.alloc.Global.{Global}
 use Rattle.network.specs.OrderSheet.{orders}
-use Rattle.network.proofs.Marking.{Marked, step, always_in, end}
+use Rattle.network.proofs.Marking.{Marked, step, asked, always, end}
 use Rattle.network.proofs.matrices.Permuted.marks.Goals as goal
 use Rattle.network.proofs.matrices.Permuted.marks.Goals.{in-Some, in_default}
 
@@ -15,8 +15,10 @@ written v v' ws xs i is lent set' =
 
 pub mark-requires : goal.mark-requires
 mark-requires c =
+    let m = c.args.self.now in
     let copied = c.entries-entry-items.ensures in
-    let one = step c.args.self.now _ c.loop-entry.entry-index _ _ c.in-Some.place (c.from-n.ensures ∙ c.size.ensures) copied (omega (arith, ap length copied)) c.in-Some.ensures c.loop-entry.invariant in
+    let more : c.loop-entry.entry-index < length m.network.entries.items = omega (arith, ap length copied) in
+    let one = step m _ c.loop-entry.entry-index _ c.in-Some.place (c.from-n.ensures ∙ c.size.ensures) more (c.in-Some.ensures ∙ asked m _ c.loop-entry.entry-index copied more) c.loop-entry.invariant in
     omega (arith, one.0, c.loop-entry.marks.ok.0)
 
 pub loop-entry-preserved : goal.loop-entry-preserved
@@ -28,11 +30,11 @@ loop-entry-preserved c =
     let more : t < length m.network.entries.items = omega (arith, ap length copied) in
     elim c.match-place.branch [
       | in-Some w ↦
-          let marked = (step m _ t _ _ w.in-Some.place (c.from-n.ensures ∙ c.size.ensures) copied more w.in-Some.ensures c.loop-entry.invariant).1 in
+          let marked = (step m _ t _ w.in-Some.place (c.from-n.ensures ∙ c.size.ensures) more (w.in-Some.ensures ∙ asked m _ t copied more) c.loop-entry.invariant).1 in
           subst (Marked n (orders m.order) m.network.entries.items (t + 1))
           (sym (written c.loop-entry.marks c.match-place.marks w.mark.new.marks w.deref_mut.result.now (w.in-Some.place.row * n + w.in-Some.place.column) w.marks-is w.deref_mut.ensures.value w.mark.ensures))
           marked
-      | in_default w ↦ absurd (always_in m _ t copied more w.in_default.ensures)
+      | in_default w ↦ absurd (always m t more (w.in_default.ensures ∙ asked m _ t copied more))
     ]
 
 pub returns : goal.returns

@@ -27,5 +27,5 @@ invariant_of-result c =
     let positions = c.in_ok-positions.positions in
     let same = collected list c.new.result c.new.ensures.bytes c.new.ensures.at numbers c.in_ok-numbers.ensures.ran in
     let few : length numbers.items ≤ 512 = omega (arith, ap length same, length_from list.bytes.now, list.few) in
-    let k = kept numbers.items positions.items _ _ numbers.ok.0 positions.ok.0 few (subst Distinct (sym same) list.distinct) (subst (Inverts positions.items) (sym same) c.in_ok-positions.ensures) in
+    let k = kept numbers.items positions.items _ _ numbers.ok.0 positions.ok.0 few (subst Distinct (sym same) list.distinct) (subst (Inverts positions.items) c.deref.ensures.value c.in_ok-positions.ensures) in
     record { small = k.small; long = k.long; below = k.below; stands = k.stands; back = k.back; told = k.told }
