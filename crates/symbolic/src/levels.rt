@@ -48,10 +48,13 @@ pub(crate) fn find_sequence(heap: Global, levels: &[u16]) -> Result<Vec<u16>, Al
 fn width(levels: &[u16], level: usize) -> usize
     ensures { result ≡ length (of_level levels.now level) }
 {
-    levels
-        .iter()
-        .filter(|other| usize::from(**other) == level)
-        .count()
+    let mut columns = 0;
+    for other in levels {
+        if usize::from(*other) == level {
+            columns += 1;
+        }
+    }
+    columns
 }
 
 // How many levels have at least threshold columns, before the first that has fewer.

@@ -25,7 +25,13 @@ pub(crate) struct FilledMatrix {
 fn entries_above(entries: &[Entry], row: u16) -> usize
     ensures { result ≡ length (filter (λ entry. nat_lt entry.row row) entries.now) }
 {
-    entries.iter().filter(|entry| entry.row < row).count()
+    let mut above = 0;
+    for entry in entries {
+        if entry.row < row {
+            above += 1;
+        }
+    }
+    above
 }
 
 impl FilledMatrix {

@@ -33,7 +33,13 @@ pub(crate) struct Filled {
 fn count_marked(marks: &[bool]) -> usize
     ensures { result ≡ length (filter (λ marked. marked) marks.now) }
 {
-    marks.iter().filter(|marked| **marked).count()
+    let mut rows = 0;
+    for marked in marks {
+        if *marked {
+            rows += 1;
+        }
+    }
+    rows
 }
 
 // Adds the marked rows of column k. A row is narrowed by a cast: `try_from` would add a branch that is never taken, and `(0u16..).zip(marks)` is no plainer than `enumerate`.
