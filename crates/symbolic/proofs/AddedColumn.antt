@@ -1,13 +1,13 @@
 -- A filled pattern with one column more. Assumes nothing.
-use Rattle.std.proofs.Common.{◌≡◌, ℕ, ◌+◌, ◌<◌, Bool, false, List, [], ◌∷◌, ◌++◌, map, length, get_or, take, filter, sym, ap, ◌∙◌, arith}
+use Rattle.std.proofs.Common.{◌≡◌, ℕ, ◌+◌, ◌<◌, Bool, false, ltb, List, [], ◌∷◌, ◌++◌, map, length, get_or, filter, sym, ap, ◌∙◌, arith}
 use Rattle.std.specs.List.{range_with_len}
-use Rattle.std.proofs.lemmas.List.FromFn.{get_or-map-range_with_len, length-map-range_with_len, map-range_with_len_more, take-map-range_with_len}
+use Rattle.std.proofs.lemmas.List.FromFn.{get_or-map-range_with_len, length-map-range_with_len, map-range_with_len_more}
 use Rattle.std.proofs.lemmas.List.{map_push}
 use Rattle.network.specs.declared.entries.Entry.{Entry}
 use Rattle.elimination.specs.Fill.{Places}
 use Rattle.elimination.specs.Plans.{rows_of, awaited_by, in_column, stored, start, stored_place}
 use Rattle.elimination.specs.Storage.{bounds_of, Stored}
-use Rattle.elimination.proofs.Storing.{kept_same, stored_more}
+use Rattle.elimination.proofs.Storing.{kept_below, kept_same, stored_more}
 use Rattle.symbolic.specs.Columns.{bounds}
 use Rattle.symbolic.specs.declared.patterns.Column.{Column}
 use Rattle.symbolic.specs.Marks.{marks_in, marked_rows}
@@ -23,16 +23,16 @@ module _ (f : Places) (n k : ℕ) (marks : List Bool) (inside : k < length marks
   rows_are : marked_rows marks ≡ rows_of f n k
   rows_are = ap (λ (x : ℕ). filter (λ i. get_or marks i false) (range_with_len 0 x)) long ∙ kept_same (λ i. get_or marks i false) (λ i. f i k) n agrees
 
-  above_are : length (filter (λ marked. marked) (take k marks)) ≡ length (awaited_by f k)
+  above_are : length (filter (λ entry. ltb entry.row k) (map (in_column k) (marked_rows marks))) ≡ length (awaited_by f k)
   above_are =
-      ap (λ (xs : List Bool). length (filter (λ marked. marked) xs)) (ap (take k) marks_are ∙ take-map-range_with_len (λ i. f i k) 0 n k (omega (arith, long)))
-      ∙ length_filter_map (λ marked. marked) (λ i. f i k) (range_with_len 0 k)
+      length_filter_map (λ entry. ltb entry.row k) (in_column k) (marked_rows marks)
+      ∙ ap length (ap (filter (λ i. ltb i k)) rows_are ∙ kept_below (λ i. f i k) n k (omega (arith, long)))
 
   module _ (old entries : List Entry) (before columns : List Column) (column : Column)
       (entries_are : entries ≡ old ++ map (in_column k) (marked_rows marks))
       (columns_are : columns ≡ before ++ column ∷ [])
       (begins : column.start ≡ length old)
-      (diagonal : column.diagonal ≡ length old + length (filter (λ marked. marked) (take k marks)))
+      (diagonal : column.diagonal ≡ length old + length (filter (λ entry. ltb entry.row k) (map (in_column k) (marked_rows marks))))
       (ends : column.end ≡ length entries)
       (so_far : Stored f n k old (map bounds before)) where
     entries_stored : entries ≡ stored f n (k + 1)

@@ -1,8 +1,8 @@
 -- How many of a list pass a test. Assumes nothing.
-use Rattle.std.proofs.Common.{◌≡◌, ℕ, ◌≤◌, Bool, cond, List, map, length, get_or, take, filter, refl, sym, ap, ◌∙◌, arith}
+use Rattle.std.proofs.Common.{◌≡◌, ℕ, Bool, cond, List, map, length, get_or, filter, refl, sym, ap, ◌∙◌}
 use Rattle.std.specs.List.{range_with_len, sum}
 use Rattle.std.proofs.lemmas.List.FromFn.{fill_by_all}
-use Rattle.std.proofs.lemmas.List.Sums.{length-filter, sum_by-take-le, sum-map}
+use Rattle.std.proofs.lemmas.List.Sums.{length-filter, sum-map}
 use Rattle.std.proofs.lemmas.Simd.{map-map}
 
 pub length_filter_map : {X Y : Type 0} (p : Y → Bool) (g : X → Y) (xs : List X) → length (filter p (map g xs)) ≡ length (filter (λ x. p (g x)) xs)
@@ -15,7 +15,3 @@ pub length_filter_places : {X : Type 0} (p : X → Bool) (xs : List X) (d : X) �
 length_filter_places p xs d =
     ap (λ ys. length (filter p ys)) (fill_by_all (λ k. get_or xs k d) xs (length xs) d refl (λ k h. refl))
     ∙ length_filter_map p (λ k. get_or xs k d) (range_with_len 0 (length xs))
-
--- no more pass of the first k than of all
-pub length_filter_take : {X : Type 0} (p : X → Bool) (k : ℕ) (xs : List X) → length (filter p (take k xs)) ≤ length (filter p xs)
-length_filter_take p k xs = omega (arith, length-filter p (take k xs), length-filter p xs, sum_by-take-le (λ x. cond (p x) 1 0) xs k)

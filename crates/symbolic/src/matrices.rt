@@ -8,7 +8,7 @@ ghost use Rattle.elimination.specs.Plans.{diagonals_checked, entry_place, levels
 ghost use Rattle.symbolic.specs.Filling.{HoldsAll, filled_of};
 
 use super::levels::level_after;
-use super::patterns::Filled;
+use super::patterns::{Filled, entries_above};
 use network::{Entry, Permuted};
 use refusals::Refusal;
 use std::alloc::{AllocError, Global};
@@ -19,19 +19,6 @@ pub(crate) struct FilledMatrix {
     pub(crate) matrix: Permuted,
     pub(crate) filled: Filled,
     ghost holds: { HoldsAll matrix filled },
-}
-
-// How many of a column's entries stand above a row.
-fn entries_above(entries: &[Entry], row: u16) -> usize
-    ensures { result ≡ length (filter (λ entry. nat_lt entry.row row) entries.now) }
-{
-    let mut above = 0;
-    for entry in entries {
-        if entry.row < row {
-            above += 1;
-        }
-    }
-    above
 }
 
 impl FilledMatrix {

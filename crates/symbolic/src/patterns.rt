@@ -29,17 +29,17 @@ pub(crate) struct Filled {
     ghost inside: { All (λ column. column.end ≤ vec_len entries) columns.items },
 }
 
-// How many rows are marked.
-fn count_marked(marks: &[bool]) -> usize
-    ensures { result ≡ length (filter (λ marked. marked) marks.now) }
+// How many entries stand above a row. By a loop: as a chain of `filter` and `count` it took three times as long.
+pub(crate) fn entries_above(entries: &[Entry], row: u16) -> usize
+    ensures { result ≡ length (filter (λ entry. nat_lt entry.row row) entries.now) }
 {
-    let mut rows = 0;
-    for marked in marks {
-        if *marked {
-            rows += 1;
+    let mut above = 0;
+    for entry in entries {
+        if entry.row < row {
+            above += 1;
         }
     }
-    rows
+    above
 }
 
 // Adds the marked rows of column k. A row is narrowed by a cast: `try_from` would add a branch that is never taken, and `(0u16..).zip(marks)` is no plainer than `enumerate`.
@@ -78,13 +78,13 @@ impl Filled {
         requires inside { vec_len self.old.columns < length marks.now }
         ensures { let k = vec_len self.old.columns in OnOk result ((f : Places) (n : ℕ) → marks.now ≡ marks_in f n k → Holds f n k self.old → Holds f n (k + 1) self.new) }
     {
-        let k = self.columns.len();
-        let start = self.entries.len();
         // by a cast, as the rows
-        gather(&mut self.entries, marks, k as u16)?;
+        let k = self.columns.len() as u16;
+        let start = self.entries.len();
+        gather(&mut self.entries, marks, k)?;
         self.columns.push(Column {
             start,
-            diagonal: start + count_marked(&marks[..k]),
+            diagonal: start + entries_above(&self.entries[start..], k),
             end: self.entries.len(),
         })?;
         Ok(())
