@@ -5,13 +5,13 @@ use Rattle.std.proofs.lemmas.List.FromFn.{get_or-map-range_with_len, length-map-
 use Rattle.std.proofs.lemmas.List.{map_push}
 use Rattle.network.specs.declared.entries.Entry.{Entry}
 use Rattle.elimination.specs.Fill.{Places}
-use Rattle.elimination.specs.Plans.{rows_of, awaited_by, in_column, stored, start, stored_place}
+use Rattle.elimination.specs.Plans.{rows_of, in_column, stored, start, stored_place}
 use Rattle.elimination.specs.Storage.{bounds_of, Stored}
-use Rattle.elimination.proofs.Storing.{kept_below, kept_same, stored_more}
+use Rattle.elimination.proofs.Storing.{kept_same, stored_more}
 use Rattle.symbolic.specs.Columns.{bounds}
 use Rattle.symbolic.specs.declared.patterns.Column.{Column}
 use Rattle.symbolic.specs.Marks.{marks_in, marked_rows}
-use Rattle.symbolic.proofs.Counting.{length_filter_map}
+use Rattle.symbolic.proofs.Counting.{above_are}
 
 module _ (f : Places) (n k : ℕ) (marks : List Bool) (inside : k < length marks) (marks_are : marks ≡ marks_in f n k) where
   long : length marks ≡ n
@@ -22,11 +22,6 @@ module _ (f : Places) (n k : ℕ) (marks : List Bool) (inside : k < length marks
 
   rows_are : marked_rows marks ≡ rows_of f n k
   rows_are = ap (λ (x : ℕ). filter (λ i. get_or marks i false) (range_with_len 0 x)) long ∙ kept_same (λ i. get_or marks i false) (λ i. f i k) n agrees
-
-  above_are : length (filter (λ entry. ltb entry.row k) (map (in_column k) (marked_rows marks))) ≡ length (awaited_by f k)
-  above_are =
-      length_filter_map (λ entry. ltb entry.row k) (in_column k) (marked_rows marks)
-      ∙ ap length (ap (filter (λ i. ltb i k)) rows_are ∙ kept_below (λ i. f i k) n k (omega (arith, long)))
 
   module _ (old entries : List Entry) (before columns : List Column) (column : Column)
       (entries_are : entries ≡ old ++ map (in_column k) (marked_rows marks))
@@ -41,7 +36,7 @@ module _ (f : Places) (n k : ℕ) (marks : List Bool) (inside : k < length marks
     column_stored : bounds column ≡ bounds_of f n k
     column_stored =
         let start_is : column.start ≡ start f n k = begins ∙ ap length so_far.entries_are in
-        let diagonal_is : column.diagonal ≡ stored_place f n k k = diagonal ∙ (λ d. length (so_far.entries_are d) + above_are d) in
+        let diagonal_is : column.diagonal ≡ stored_place f n k k = diagonal ∙ (λ d. length (so_far.entries_are d) + above_are f n k k _ (omega (arith, long)) (ap (map (in_column k)) rows_are) d) in
         let end_is : column.end ≡ start f n (k + 1) = ends ∙ ap length entries_stored in
         λ d. record { start = start_is d; diagonal = diagonal_is d; end = end_is d }
 

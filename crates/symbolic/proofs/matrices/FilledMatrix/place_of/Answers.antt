@@ -1,20 +1,12 @@
-use Rattle.std.proofs.Common.{◌≡◌, ℕ, ◌+◌, ◌<◌, ◌≤◌, ltb, List, length, map, vec_items, filter, refl, ap, ◌∙◌, arith}
-use Rattle.network.specs.declared.entries.Entry.{Entry}
-use Rattle.elimination.specs.Fill.{Places}
-use Rattle.elimination.specs.Plans.{in_column, rows_of, start, stored_place}
+use Rattle.std.proofs.Common.{◌≡◌, ◌+◌, ◌<◌, length, vec_items, refl, ap, ◌∙◌, arith}
+use Rattle.elimination.specs.Plans.{start, stored_place}
 use Rattle.elimination.specs.Storage.{Bounds}
-use Rattle.elimination.proofs.Storing.{kept_below, place_within, start_rises}
+use Rattle.elimination.proofs.Storing.{place_within, start_rises}
 use Rattle.symbolic.specs.declared.patterns.Column.{Column}
 use Rattle.symbolic.specs.Filling.{filled_of}
-use Rattle.symbolic.proofs.Counting.{length_filter_map}
+use Rattle.symbolic.proofs.Counting.{above_are}
 use Rattle.symbolic.proofs.FilledFacts.{bounds_are, column_is, columns_long, entries_long}
 use Rattle.symbolic.proofs.matrices.FilledMatrix.place_of.Goals as goal
-
--- as many entries of column k stand above row i as its filled rows
-above_are : (f : Places) (n i k : ℕ) (xs : List Entry) → i ≤ n → xs ≡ map (in_column k) (rows_of f n k) → start f n k + length (filter (λ entry. ltb entry.row i) xs) ≡ stored_place f n i k
-above_are f n i k xs inside is =
-    ap (λ (m : ℕ). start f n k + m)
-    (ap (λ (ys : List Entry). length (filter (λ entry. ltb entry.row i) ys)) is ∙ length_filter_map (λ entry. ltb entry.row i) (in_column k) (rows_of f n k) ∙ ap length (kept_below (λ r. f r k) n i inside))
 
 pub index-column-requires : goal.index-column-requires
 index-column-requires c =
@@ -43,7 +35,7 @@ returns c =
     let more : k < length columns = omega (arith, columns_long f n n x.filled x.holds, c.from.ensures, c.requires.column) in
     let entries = column_is f n n x.filled x.holds columns refl k more column c.index-column.ensures c.entries_of.result.now c.entries_of.ensures in
     let begins : column.start ≡ start f n k = ap (λ (place : Bounds). place.start) (bounds_are f n n x.filled x.holds columns refl k more column c.index-column.ensures) in
-    (λ d. begins d + c.entries_above.ensures d) ∙ above_are f n i k c.entries_of.result.now (omega arith) entries ∙ ap (stored_place f n i) c.from.ensures
+    (λ d. begins d + (c.entries_above.ensures ∙ above_are f n i k c.entries_of.result.now (omega arith) entries) d) ∙ ap (stored_place f n i) c.from.ensures
 
 pub overflow_add-result : goal.overflow_add-result
 overflow_add-result c =
