@@ -61,5 +61,6 @@ reads_first old new r value position same =
     (subst (λ (q : ℕ). Gives old.bytes.now old.bytes.now old.at r q) (sym position)
     (subst (λ (o : Option ℕ). Gives old.bytes.now old.bytes.now old.at o (past old.bytes.now old.at)) (sym value) (gives old.bytes.now old.at)))
 
+-- the same of a number that was read, a form that the search takes
 pub first_left : (old new : Reader) (x : ℕ) → Some x ≡ word_read old.bytes.now old.at → new.at ≡ past old.bytes.now old.at → new.bytes.now ≡ old.bytes.now → numbers_left old ≡ x ∷ numbers_left new
 first_left old new x value position same = reads_first old new (Some x) value position same
